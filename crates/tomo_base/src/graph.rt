@@ -1,0 +1,136 @@
+// Graphs, as a list of links with the neighbours of each node.
+ghost use Rattle.std.specs.Prelude.{◌≡◌, ◌≤◌, ◌<◌, ℕ, length, map, IfOk, IfErr, IfSome, IfNone, false};
+ghost use Rattle.tomo_base.specs.Network.{Network, linked, IsGraph};
+ghost use Rattle.tomo_base.specs.Table.{in_order, JoinsAt, AreHops, IsTable, IsFirstFault};
+
+use crate::hop_rows::{enter, link_to, turned};
+use std::alloc::{AllocError, AllocFailed, Global};
+use std::marker::Model;
+
+/// A link of a graph, by its two ends.
+#[derive(Clone, Copy, Debug, PartialEq, Eq)]
+pub struct Link {
+    pub a: u32,
+    pub b: u32,
+}
+
+/// A neighbour, and the number of the link that leads to it.
+#[derive(Clone, Copy, Debug, PartialEq, Eq)]
+pub struct Hop {
+    pub node: u32,
+    pub link: u32,
+}
+
+/// Why a list of links is no graph.
+#[derive(Clone, Copy, Debug, PartialEq, Eq)]
+pub enum GraphFault {
+    NoMemory,
+    Range(u32),
+    Loop(u32),
+    Repeat(u32),
+}
+
+impl From<AllocError> for GraphFault {
+    ghost use Rattle.tomo_base.specs.declared.graph.GraphFault.TheVariants.{NoMemory};
+
+    ghost from_gives = { λ _ e. e ≡ NoMemory };
+
+    fn from(_e: AllocError) -> GraphFault {
+        GraphFault::NoMemory
+    }
+}
+
+impl<T: Drop> From<AllocFailed<T>> for GraphFault {
+    ghost use Rattle.tomo_base.specs.declared.graph.GraphFault.TheVariants.{NoMemory};
+
+    ghost from_gives = { λ _ e. e ≡ NoMemory };
+
+    fn from(_e: AllocFailed<T>) -> GraphFault {
+        GraphFault::NoMemory
+    }
+}
+
+/// A simple graph, with the neighbours of each node.
+#[derive(Drop)]
+pub struct Graph {
+    node_count: u32,
+    links: Vec<Link>,
+    hops: Vec<Vec<Hop>>,
+}
+
+impl Model for Graph {
+    ghost Value = { Network };
+
+    ghost view = { λ g. record { nodes = g.node_count; links = g.links.items } };
+
+    ghost invariant = { λ g. IsTable g.node_count g.links.items g.hops.items };
+}
+
+impl Graph {
+    pub fn new(alloc: Global, n: u32, links: &[Link]) -> Result<Graph, GraphFault>
+        requires few_nodes { n ≤ 10000 }
+        requires few_links { length links.now ≤ 20000 }
+        ensures nodes { IfOk result (λ g. g.nodes ≡ n) }
+        ensures links { IfOk result (λ g. g.links ≡ map in_order links.now) }
+        ensures graph { IfOk result (λ g. IsGraph g) }
+        ensures fault { IfErr result (IsFirstFault n links.now) }
+    {
+        let mut kept: Vec<Link> = Vec::new(alloc);
+        let mut rows: Vec<Vec<Hop>> = Vec::new(alloc);
+        for _ in 0..n {
+            rows.push(Vec::new(alloc))?;
+        }
+        for (i, given) in links.iter().enumerate() {
+            let link = turned(*given);
+            let number = i as u32;
+            if link.b >= n {
+                return Err(GraphFault::Range(number));
+            }
+            if link.a == link.b {
+                return Err(GraphFault::Loop(number));
+            }
+            if link_to(&rows[link.a as usize], link.b).is_some() {
+                return Err(GraphFault::Repeat(number));
+            }
+            enter(&mut rows, link, number)?;
+            kept.push(link)?;
+        }
+        Ok(Graph {
+            node_count: n,
+            links: kept,
+            hops: rows,
+        })
+    }
+
+    pub fn nodes(&self) -> u32
+        ensures nodes { result ≡ self.now.nodes }
+        ensures few { result ≤ 10000 }
+        ensures graph { IsGraph self.now }
+    {
+        self.node_count
+    }
+
+    pub fn links(&self) -> &[Link]
+        ensures links { result.now ≡ self.now.links }
+        ensures few { length result.now ≤ 20000 }
+        ensures graph { IsGraph self.now }
+    {
+        &self.links
+    }
+
+    pub fn hops(&self, v: u32) -> &[Hop]
+        requires { v < self.now.nodes }
+        ensures { AreHops self.now.links v result.now }
+    {
+        &self.hops[v as usize]
+    }
+
+    pub fn between(&self, a: u32, b: u32) -> Option<u32>
+        requires first { a < self.now.nodes }
+        requires second { b < self.now.nodes }
+        ensures found { IfSome result (λ i. JoinsAt self.now.links i a b) }
+        ensures none { IfNone result (linked self.now a b ≡ false) }
+    {
+        link_to(self.hops(a), b)
+    }
+}

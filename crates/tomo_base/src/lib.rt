@@ -4,11 +4,13 @@
 mod graph;
 mod hop_rows;
 mod memory;
+mod node_set;
 mod search;
 mod words;
 
 pub use graph::{Graph, GraphFault, Hop, Link};
 pub use memory::NoMemory;
+pub use node_set::NodeSet;
 pub use search::first_apart;
 pub use words::Words;
 

@@ -1,9 +1,15 @@
 -- Nodes that a link joins to a node of a set.
-use Rattle.std.proofs.Common.{ℕ, ◌<◌, Bool, ◌&&◌, IsTrue}
-use Rattle.std.proofs.lemmas.Bool.{and_parts, and_from}
-use Rattle.tomo_base.specs.Network.{Network, linked}
-use Rattle.tomo_base.specs.Sets.{touches}
+use Rattle.std.proofs.Common.{◌≡◌, ℕ, ◌<◌, ◌≤◌, Bool, true, false, ◌&&◌, not, List, get_or, IsTrue, sym, ◌∙◌, inl, inr, arith}
+use Rattle.std.specs.List.{list_any}
+use Rattle.std.proofs.lemmas.Bool.{and_parts, and_from, cases_Bool, both_ways, false_from_ne_true}
+use Rattle.std.proofs.lemmas.List.Folds.{Any-from_list_any, list_any_at}
+use Rattle.tomo_base.specs.declared.graph.Hop.{Hop}
+use Rattle.tomo_base.specs.Network.{Network, linked, IsGraph}
+use Rattle.tomo_base.specs.Sets.{touches, outside}
+use Rattle.tomo_base.specs.Table.{AreHops, JoinsAt}
 use Rattle.tomo_base.proofs.Counts.{any_below-from, any_below_gives}
+use Rattle.tomo_base.proofs.Links.{linked_below}
+use Rattle.tomo_base.proofs.Rows.{any_joins-from, any_joins_gives}
 
 -- a node that is linked to a node of the set touches it
 pub touches-from : (g : Network) (q : ℕ → Bool) (v w : ℕ) → w < g.nodes → IsTrue (q w) → IsTrue (linked g v w) → IsTrue (touches g q v)
@@ -14,3 +20,28 @@ touches-from g q v w l h e = any_below-from g.nodes (λ x. q x && linked g v x) 
 pub touches_gives : (g : Network) (q : ℕ → Bool) (v : ℕ) → IsTrue (touches g q v) → (w : ℕ) × (w < g.nodes) × IsTrue (q w) × IsTrue (linked g v w)
 unfolding touches
 touches_gives g q v h = let r = any_below_gives g.nodes (λ x. q x && linked g v x) h in let parts = and_parts _ _ r.2 in (r.0, r.1, parts.0, parts.1)
+
+-- some hop of a node leads into the set just where the node touches it
+pub touches-hops : (g : Network) (q : ℕ → Bool) (v : ℕ) (hops : List Hop) → IsGraph g → AreHops g.links v hops → list_any (λ h. q h.node) hops ≡ touches g q v
+touches-hops g q v hops graph are = elim (cases_Bool (list_any (λ (h : Hop). q h.node) hops)) [
+  | inl e ↦
+      let found = Any-from_list_any (λ (h : Hop). q h.node) hops e in
+      let at : JoinsAt g.links found.1.link v found.1.node = rw (sym found.3) (are.sound found.0 found.1 found.2) in
+      let there : linked g v found.1.node ≡ true = any_joins-from g.links found.1.link v found.1.node at in
+      e ∙ sym (touches-from g q v found.1.node (linked_below g.nodes g.links v found.1.node graph there).1 found.4 there)
+  | inr e ↦ e ∙ sym (false_from_ne_true (touches g q v) (λ h.
+      let near = touches_gives g q v h in
+      let link = any_joins_gives g.links v near.0 near.3 in
+      let hop = are.complete link.0 near.0 link.1 in
+      let d : Hop = record { node = near.0; link = link.0 } in
+      let into : q (get_or hops hop.0 d).node ≡ true = rw hop.2 near.2 in
+      both_ways (list_any (λ (h : Hop). q h.node) hops) e (list_any_at (λ (h : Hop). q h.node) hops hop.0 d hop.1 into)))
+]
+
+-- only nodes touch a set
+pub touches_below : (g : Network) (q : ℕ → Bool) (v : ℕ) → IsGraph g → touches g q v ≡ true → v < g.nodes
+touches_below g q v graph h = let near = touches_gives g q v h in (linked_below g.nodes g.links v near.0 graph near.3).0
+
+-- only nodes are outside neighbours
+pub outside_below : (g : Network) (q : ℕ → Bool) (v : ℕ) → IsGraph g → g.nodes ≤ v → outside g q v ≡ false
+outside_below g q v graph l = false_from_ne_true (outside g q v) (λ h. omega (arith, touches_below g q v graph (and_parts (not (q v)) (touches g q v) h).1, l))

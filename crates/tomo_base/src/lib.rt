@@ -5,12 +5,16 @@ mod graph;
 mod hop_rows;
 mod memory;
 mod node_set;
+mod node_sets;
+mod pocket;
 mod search;
 mod words;
 
 pub use graph::{Graph, GraphFault, Hop, Link};
 pub use memory::NoMemory;
 pub use node_set::NodeSet;
+pub use node_sets::NodeSets;
+pub use pocket::{Pocket, Pockets, need};
 pub use search::first_apart;
 pub use words::Words;
 

@@ -1,6 +1,6 @@
 use Rattle.std.proofs.Common.{◌∙◌, ap}
 use Rattle.tomo_base.specs.Sets.{has}
-use Rattle.tomo_base.proofs.NodeSets.{is_ok-search}
+use Rattle.tomo_base.proofs.Ascending.{is_ok-search}
 use Rattle.tomo_base.proofs.node_set.NodeSet.has.Goals as goal
 
 pub returns : goal.returns

@@ -1,6 +1,6 @@
 use Rattle.std.proofs.Common.{◌≡◌, true, false, not, sym, ap, ◌∙◌}
 use Rattle.tomo_base.specs.Sets.{has}
-use Rattle.tomo_base.proofs.NodeSets.{belongs_at, belongs_new, has_found, has_already, has-insert, insert_node}
+use Rattle.tomo_base.proofs.Ascending.{belongs_at, belongs_new, has_found, has_already, has-insert, insert_node}
 use Rattle.tomo_base.proofs.node_set.NodeSet.insert.Goals as goal
 
 pub invariant_of-self-in-Err : goal.invariant_of-self-in-Err

@@ -1,5 +1,5 @@
 use Rattle.std.proofs.Common.{arith}
-use Rattle.tomo_base.proofs.NodeSets.{length-node_set}
+use Rattle.tomo_base.proofs.Ascending.{length-node_set}
 use Rattle.tomo_base.proofs.node_set.NodeSet.len.Goals as goal
 
 pub overflow_cast-result : goal.overflow_cast-result

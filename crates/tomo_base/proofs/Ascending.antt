@@ -1,13 +1,14 @@
 -- What an ascending list of nodes keeps when a node is put into it, and that a set has one such list.
-use Rattle.std.proofs.Common.{◌≡◌, ℕ, zero, suc, ◌+◌, ◌<◌, ◌≤◌, Bool, true, false, ◌||◌, ◌==◌, List, [], ◌∷◌, length, get_or, take, drop, All, refl, sym, ap, ◌∙◌, subst, inl, inr, arith, Result, Ok, Err, is_ok}
+use Rattle.std.proofs.Common.{◌≡◌, ℕ, zero, suc, ◌+◌, ◌<◌, ◌≤◌, Bool, true, false, ◌||◌, ◌&&◌, ◌==◌, nat_lt, List, [], ◌∷◌, length, get_or, take, drop, lt-ltb, ne_eqb, All, refl, sym, ap, ◌∙◌, subst, inl, inr, arith, Result, Ok, Err, is_ok}
 use Rattle.std.specs.List.{insert}
 use Rattle.std.specs.List.Sorted.{IsStrictlyIncreasing, IsBinarySearchResult}
 use Rattle.std.specs.Ordering.{nat_cmp}
-use Rattle.std.proofs.lemmas.Bool.{cases_order, cases_eq, cases_Bool, or_cases, or_left, or_right, eqb-true, eq-eqb, false_from_ne_true, true≢false}
+use Rattle.std.proofs.lemmas.Bool.{cases_order, cases_lt, cases_eq, cases_Bool, or_cases, or_left, or_right, eqb-true, eq-eqb, false_from_ne_true, true≢false}
 use Rattle.std.proofs.lemmas.List.Edits.{length-insert, get_or-insert_below, get_or-insert_at, get_or-insert_above}
 use Rattle.std.proofs.lemmas.List.Kept.{AllPairs-from_increasing}
 use Rattle.std.proofs.lemmas.List.Sorted.{searched}
-use Rattle.std.proofs.lemmas.List.{take-append-drop}
+use Rattle.std.proofs.lemmas.List.{take-append-drop, take_more}
+use Rattle.std.proofs.lemmas.Bool.Decides.{nat_tests}
 use Rattle.tomo_base.specs.Sets.{has}
 use Rattle.tomo_base.specs.NodeLists.{node_limit, IsNodeSet}
 use Rattle.tomo_base.proofs.Counts.{count-le}
@@ -128,3 +129,47 @@ has_already xs v h w = elim (cases_Bool (v == w)) [
 -- the list with the node put where it belongs is the ascending list of the set with it
 pub insert_node : (xs : List ℕ) (i v : ℕ) → IsNodeSet xs → BelongsAt xs i v → v < node_limit → IsNodeSet (insert xs i v)
 insert_node xs i v is b lt = record { ascending = insert_ascends xs i v is.ascending b; below = insert_below xs i v lt is.below }
+
+-- ---- loops over the nodes of a set
+
+-- a set and no list
+pub has-none : (xs : List ℕ) (w : ℕ) → has xs w ≡ (has xs w || has [] w)
+unfolding has
+has-none xs w = grind arith
+
+-- a set with one node more of a list
+pub has-more : (all old : ℕ → Bool) (xs : List ℕ) (i d v w : ℕ) → i < length xs → v ≡ get_or xs i d → all w ≡ (old w || has (take i xs) w) →
+    ((v == w) || all w) ≡ (old w || has (take (i + 1) xs) w)
+unfolding has
+has-more all old xs i d v w l same before =
+    rw (take_more xs i d l, has-append (take i xs) (get_or xs i d ∷ []) w, sym same, before) (regroup (v == w) (old w) (has (take i xs) w))
+  where
+    regroup : (a b c : Bool) → (a || (b || c)) ≡ (b || (c || (a || false)))
+    regroup a b c = grind arith
+
+-- a number other than v is below v just where it is below the next
+same_below : (v w : ℕ) → (v ≡ w → ⊥) → nat_lt w v ≡ nat_lt w (v + 1)
+same_below v w ne = grind (arith, nat_tests)
+
+-- a set with the first of the numbers from v on that pass
+pub below-more : (found p : ℕ → Bool) (v w : ℕ) → found w ≡ (nat_lt w v && p w) → p v ≡ true → ((v == w) || found w) ≡ (nat_lt w (v + 1) && p w)
+below-more found p v w before passes = rw before (elim (cases_eq v w) [
+  | inl same ↦ rw (eq-eqb v w same, lt-ltb w (v + 1) (omega (arith, same)), ap p (sym same), passes) refl
+  | inr ne ↦ rw (ne_eqb v w ne) (ap (λ b. b && p w) (same_below v w ne))
+])
+
+-- a set without the first of them, which does not pass
+pub below-less : (found p : ℕ → Bool) (v w : ℕ) → found w ≡ (nat_lt w v && p w) → p v ≡ false → found w ≡ (nat_lt w (v + 1) && p w)
+below-less found p v w before fails = rw before (elim (cases_eq v w) [
+  | inl same ↦ rw (ap p (sym same), fails) (grind arith)
+  | inr ne ↦ ap (λ b. b && p w) (same_below v w ne)
+])
+
+-- a set without nodes, and the numbers below 0
+pub below-none : (p : ℕ → Bool) (w : ℕ) → has [] w ≡ (nat_lt w 0 && p w)
+unfolding has
+below-none p w = grind (arith, nat_tests)
+
+-- a test that no number from n on passes is found whole below n
+pub below-all : (p : ℕ → Bool) (n w : ℕ) → (n ≤ w → p w ≡ false) → (nat_lt w n && p w) ≡ p w
+below-all p n w out = elim (cases_lt w n) [ inl lt ↦ rw (lt-ltb w n lt) refl | inr ge ↦ rw (out ge) (grind arith) ]

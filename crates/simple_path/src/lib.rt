@@ -1,0 +1,10 @@
+//! Paths over the nodes of a graph, pools of paths, and recipes: signed sums of paths.
+#![tactic(auto)]
+
+mod path_pool;
+mod recipe;
+#[cfg(test)]
+mod tests;
+
+pub use path_pool::PathPool;
+pub use recipe::{Recipe, Recipes, Term};

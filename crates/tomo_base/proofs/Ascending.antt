@@ -1,5 +1,5 @@
 -- What an ascending list of nodes keeps when a node is put into it, and that a set has one such list.
-use Rattle.std.proofs.Common.{◌≡◌, ℕ, zero, suc, ◌+◌, ◌<◌, ◌≤◌, Bool, true, false, ◌||◌, ◌&&◌, ◌==◌, nat_lt, List, [], ◌∷◌, length, get_or, take, drop, lt-ltb, ne_eqb, All, refl, sym, ap, ◌∙◌, subst, inl, inr, arith, Result, Ok, Err, is_ok}
+use Rattle.std.proofs.Common.{◌≡◌, ℕ, zero, suc, ◌+◌, ◌<◌, ◌≤◌, Bool, true, false, ◌||◌, ◌&&◌, ◌==◌, nat_lt, List, [], ◌∷◌, length, get_or, take, drop, lt-ltb, ne_eqb, All, refl, sym, ap, ap₂, ◌∙◌, subst, inl, inr, arith, Result, Ok, Err, is_ok}
 use Rattle.std.specs.List.{insert}
 use Rattle.std.specs.List.Sorted.{IsStrictlyIncreasing, IsBinarySearchResult}
 use Rattle.std.specs.Ordering.{nat_cmp}
@@ -12,7 +12,7 @@ use Rattle.std.proofs.lemmas.Bool.Decides.{nat_tests}
 use Rattle.tomo_base.specs.Sets.{has}
 use Rattle.tomo_base.specs.NodeLists.{node_limit, IsNodeSet}
 use Rattle.tomo_base.proofs.Counts.{count-le}
-use Rattle.tomo_base.proofs.Members.{count-has, has-append}
+use Rattle.tomo_base.proofs.Members.{count-has, has-append, first_least, increasing-tail, first_once}
 
 -- a set of nodes has at most as many as a graph may have
 pub length-node_set : (xs : List ℕ) → IsNodeSet xs → length xs ≤ node_limit
@@ -129,6 +129,24 @@ has_already xs v h w = elim (cases_Bool (v == w)) [
 -- the list with the node put where it belongs is the ascending list of the set with it
 pub insert_node : (xs : List ℕ) (i v : ℕ) → IsNodeSet xs → BelongsAt xs i v → v < node_limit → IsNodeSet (insert xs i v)
 insert_node xs i v is b lt = record { ascending = insert_ascends xs i v is.ascending b; below = insert_below xs i v lt is.below }
+
+-- two ascending lists with the same numbers are equal
+pub same_list : (xs ys : List ℕ) → IsStrictlyIncreasing xs → IsStrictlyIncreasing ys → ((v : ℕ) → has xs v ≡ has ys v) → xs ≡ ys
+unfolding has
+same_list [] [] up up' same = refl
+same_list [] (y ∷ ys) up up' same = absurd (true≢false (sym (same y ∙ or_left (y == y) (has ys y) (eq-eqb y y refl))))
+same_list (x ∷ xs) [] up up' same = absurd (true≢false (sym (or_left (x == x) (has xs x) (eq-eqb x x refl)) ∙ same x))
+same_list (x ∷ xs) (y ∷ ys) up up' same =
+    let low : x ≤ y = first_least (x ∷ xs) up y (same y ∙ or_left (y == y) (has ys y) (eq-eqb y y refl)) in
+    let high : y ≤ x = first_least (y ∷ ys) up' x (sym (same x) ∙ or_left (x == x) (has xs x) (eq-eqb x x refl)) in
+    let first : x ≡ y = omega (arith, low, high) in
+    ap₂ ◌∷◌ first (same_list xs ys (increasing-tail x xs up) (increasing-tail y ys up') (λ v. rest v first))
+  where
+    rest : (v : ℕ) → x ≡ y → has xs v ≡ has ys v
+    rest v first = elim (cases_eq x v) [
+      | inl e ↦ ap (has xs) (sym e) ∙ (first_once x xs up ∙ (sym (first_once y ys up') ∙ ap (has ys) (sym first ∙ e)))
+      | inr ne ↦ sym (ap (λ b. b || has xs v) (ne_eqb x v ne)) ∙ (same v ∙ ap (λ b. b || has ys v) (ne_eqb y v (λ e. ne (first ∙ e))))
+    ]
 
 -- ---- loops over the nodes of a set
 

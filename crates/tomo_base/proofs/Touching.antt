@@ -1,14 +1,14 @@
 -- Nodes that a link joins to a node of a set.
-use Rattle.std.proofs.Common.{◌≡◌, ℕ, ◌<◌, ◌≤◌, Bool, true, false, ◌&&◌, not, List, get_or, IsTrue, sym, ◌∙◌, inl, inr, arith}
+use Rattle.std.proofs.Common.{◌≡◌, ℕ, ◌<◌, ◌≤◌, Bool, true, false, ◌&&◌, not, List, get_or, IsTrue, sym, ◌∙◌, subst, inl, inr, arith}
 use Rattle.std.specs.List.{list_any}
 use Rattle.std.proofs.lemmas.Bool.{and_parts, and_from, cases_Bool, both_ways, false_from_ne_true}
 use Rattle.std.proofs.lemmas.List.Folds.{Any-from_list_any, list_any_at}
 use Rattle.tomo_base.specs.declared.graph.Hop.{Hop}
 use Rattle.tomo_base.specs.Network.{Network, linked, IsGraph}
-use Rattle.tomo_base.specs.Sets.{touches, outside}
+use Rattle.tomo_base.specs.Sets.{touches, outside, size, degree}
 use Rattle.tomo_base.specs.Table.{AreHops, JoinsAt}
-use Rattle.tomo_base.proofs.Counts.{any_below-from, any_below_gives}
-use Rattle.tomo_base.proofs.Links.{linked_below}
+use Rattle.tomo_base.proofs.Counts.{any_below-from, any_below_gives, count-mono}
+use Rattle.tomo_base.proofs.Links.{linked_below, linked_comm}
 use Rattle.tomo_base.proofs.Rows.{any_joins-from, any_joins_gives}
 
 -- a node that is linked to a node of the set touches it
@@ -45,3 +45,9 @@ touches_below g q v graph h = let near = touches_gives g q v h in (linked_below 
 -- only nodes are outside neighbours
 pub outside_below : (g : Network) (q : ℕ → Bool) (v : ℕ) → IsGraph g → g.nodes ≤ v → outside g q v ≡ false
 outside_below g q v graph l = false_from_ne_true (outside g q v) (λ h. omega (arith, touches_below g q v graph (and_parts (not (q v)) (touches g q v) h).1, l))
+
+-- the outside neighbours of a single node are its neighbours
+pub outside-single : (g : Network) (q : ℕ → Bool) (v : ℕ) → ((w : ℕ) → q w ≡ true → w ≡ v) → size g (outside g q) ≤ degree g v
+outside-single g q v only = count-mono g.nodes (outside g q) (linked g v) (λ u l h.
+    let near = touches_gives g q u (and_parts (not (q u)) (touches g q u) h).1 in
+    subst (λ w. linked g w u ≡ true) (only near.0 near.2) (linked_comm g u near.0 near.3))

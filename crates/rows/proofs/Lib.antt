@@ -1,0 +1,5 @@
+pub mod Cuts
+pub mod Counts
+pub mod Records
+pub mod Sizes
+pub mod Fields

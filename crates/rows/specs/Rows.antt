@@ -1,0 +1,41 @@
+-- Rows of fields, as they are listed, read and printed.
+use Rattle.std.specs.Prelude.{ℕ, ◌<◌, ◌^◌, List, length, All, true}
+use Rattle.std.specs.List.{flat_map, sum_by}
+use Rattle.csv.specs.Reading.{default_config, records, strip_bom}
+use Rattle.csv.specs.Writing.{default_writer, row_text, with_flexible}
+use Rattle.csv.specs.declared.writer.WriterBuilder.{WriterBuilder}
+
+-- a row is its fields, and a field is its bytes
+abbrev pub Row : Type 0
+Row = List (List ℕ)
+
+-- closed rows, and the fields of the open row
+pub record RowList : Type 0 where
+  pub closed : List Row
+  pub current : Row
+
+-- a row has at least one field, and no more than can be counted in 32 bits
+abbrev pub IsFullRow : Row → Type 0
+IsFullRow row = (0 < length row) × (length row < 2 ^ 32)
+
+-- what each list of rows keeps: a closed row has a field, and all counts fit 32 bits
+pub record IsCounted (rows : RowList) : Type 0 where
+  pub count : length rows.closed < 2 ^ 32
+  pub each : All IsFullRow rows.closed
+  pub current : length rows.current < 2 ^ 32
+
+-- how many bytes the fields of a row have in all
+abbrev pub row_bytes : Row → ℕ
+row_bytes row = sum_by (λ (field : List ℕ). length field) row
+
+-- the records of a text, after one byte order mark
+abbrev pub rows_of : List ℕ → List Row
+rows_of bytes = records default_config (strip_bom bytes)
+
+-- the settings of the writer: those of `csv`, and rows may have different lengths
+abbrev pub writer : WriterBuilder
+writer = with_flexible default_writer true
+
+-- the text of rows, each ended by a line feed
+abbrev pub text_of : List Row → List ℕ
+text_of rows = flat_map (row_text writer) rows

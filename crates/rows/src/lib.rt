@@ -1,0 +1,11 @@
+//! Rows of fields: read from a text of comma-separated values, and printed as one.
+#![tactic(auto)]
+
+mod list;
+mod places;
+mod printing;
+mod reading;
+
+pub use list::Rows;
+pub use printing::print_rows;
+pub use reading::read_rows;

@@ -1,0 +1,54 @@
+-- The parts of a plan, and which of them can be spelled.
+use Rattle.std.specs.Prelude.{ℕ, ◌^◌, ◌<◌, ◌≤◌, nat_le, Bool, ◌&&◌, List, length, ℤ, pos, negsuc, All, IsTrue}
+use Rattle.std.specs.Str.{is_utf8}
+use Rattle.tomo_base.specs.declared.graph.Link.{Link}
+use Rattle.simple_path.specs.declared.recipe.Term.{Term}
+
+-- a pocket as it stands in a plan: its need, and its nodes
+pub record PlanPocket : Type 0 where
+  pub need : ℕ
+  pub nodes : List ℕ
+
+-- a plan, each part as the list that stands in the file
+pub record PlanParts : Type 0 where
+  pub names : List (List ℕ)
+  pub links : List Link
+  pub monitors : List ℕ
+  pub pockets : List PlanPocket
+  pub paths : List (List ℕ)
+  pub recipes : List (List Term)
+
+-- a number of 32 bits
+abbrev pub IsSmall : ℕ → Type 0
+IsSmall n = n < 2 ^ 32
+
+-- a name has 1 to 64 bytes of UTF-8
+abbrev pub is_name : List ℕ → Bool
+is_name bytes = nat_le 1 (length bytes) && nat_le (length bytes) 64 && is_utf8 bytes
+
+-- one or more nodes
+abbrev pub IsNodeList : List ℕ → Type 0
+IsNodeList nodes = (0 < length nodes) × All IsSmall nodes
+
+-- from -4 to 4, and not 0
+abbrev pub IsCoefficient : ℤ → Type 0
+IsCoefficient (pos n) = (0 < n) × (n ≤ 4)
+IsCoefficient (negsuc n) = n < 4
+
+-- 1 to 16 terms
+abbrev pub IsTermList : List Term → Type 0
+IsTermList terms = (0 < length terms) × (length terms ≤ 16) × All (λ t. IsCoefficient t.coef × IsSmall t.path) terms
+
+-- well formed: each part can be spelled
+pub record IsWellFormed (p : PlanParts) : Type 0 where
+  pub names : All (λ n. IsTrue (is_name n)) p.names
+  pub links : All (λ l. IsSmall l.a × IsSmall l.b) p.links
+  pub monitors : All IsSmall p.monitors
+  pub pockets : All (λ k. IsSmall k.need × IsNodeList k.nodes) p.pockets
+  pub paths : All IsNodeList p.paths
+  pub recipes : All IsTermList p.recipes
+  pub few_names : length p.names < 2 ^ 32
+  pub few_links : length p.links < 2 ^ 32
+  pub few_pockets : length p.pockets < 2 ^ 32
+  pub few_paths : length p.paths < 2 ^ 31
+  pub few_recipes : length p.recipes < 2 ^ 32

@@ -1,0 +1,207 @@
+// The rows of a plan.
+ghost use Rattle.std.specs.Prelude.{◌≡◌, ◌+◌, ◌<◌, ◌^◌, ◌++◌, [], ◌∷◌, IfOk, OnOk, length, map, decimal};
+ghost use Rattle.plan_form.specs.Spelling.{numbers_text, term_text, terms_text};
+ghost use Rattle.plan_form.specs.Held.{part_of};
+ghost use Rattle.plan_form.specs.PlanRows.{AddsRows, node_row, link_row, monitor_row, pocket_row, path_row, recipe_row, numbered, row_count, plan_rows as rows_of_plan};
+
+use crate::plan::{HeldPocket, Plan};
+use itoa::Buffer;
+use rows::Rows;
+use simple_path::{PathPool, Recipes, Term};
+use std::alloc::Global;
+use tomo_base::{Link, NoMemory, Words};
+
+// Puts the numbers, joined by single spaces, into an empty text.
+fn numbers_joined(numbers: &[u32], text: &mut Vec<u8>) -> Result<(), NoMemory>
+    requires { text.old.items ≡ [] }
+    ensures { OnOk result (text.new.items ≡ numbers_text numbers.now) }
+{
+    for (i, n) in numbers.iter().enumerate() {
+        if i > 0 {
+            text.push(b' ')?;
+        }
+        let mut digits = Buffer::new();
+        text.extend_from_slice(digits.format(*n).as_bytes())?;
+    }
+    Ok(())
+}
+
+// Puts a coefficient, a colon and a path number at the end of a text.
+fn term_joined(term: Term, text: &mut Vec<u8>) -> Result<(), NoMemory>
+    ensures { OnOk result (text.new.items ≡ text.old.items ++ term_text term) }
+{
+    let mut digits = Buffer::new();
+    text.extend_from_slice(digits.format(term.coef).as_bytes())?;
+    text.push(b':')?;
+    text.extend_from_slice(digits.format(term.path).as_bytes())?;
+    Ok(())
+}
+
+// Puts the terms, joined by single spaces, into an empty text.
+fn terms_joined(terms: &[Term], text: &mut Vec<u8>) -> Result<(), NoMemory>
+    requires { text.old.items ≡ [] }
+    ensures { OnOk result (text.new.items ≡ terms_text terms.now) }
+{
+    for (i, term) in terms.iter().enumerate() {
+        if i > 0 {
+            text.push(b' ')?;
+        }
+        term_joined(*term, text)?;
+    }
+    Ok(())
+}
+
+// Adds a row with these fields.
+fn add_row(rows: &mut Rows, fields: &[&[u8]]) -> Result<(), NoMemory>
+    requires none { rows.old.current ≡ [] }
+    requires some { 0 < length fields.now }
+    requires few { length fields.now < 2 ^ 32 }
+    requires room { length rows.old.closed + 1 < 2 ^ 32 }
+    ensures rows { OnOk result (AddsRows rows.old rows.new (map (λ f. f.now) fields.now ∷ [])) }
+    ensures count { OnOk result (length rows.new.closed ≡ length rows.old.closed + 1) }
+{
+    for field in fields {
+        rows.field(field)?;
+    }
+    rows.close()
+}
+
+// Adds a row of a kind with its number and one more field.
+fn add_numbered(rows: &mut Rows, word: &str, i: u32, rest: &[u8]) -> Result<(), NoMemory>
+    requires none { rows.old.current ≡ [] }
+    requires room { length rows.old.closed + 1 < 2 ^ 32 }
+    ensures { OnOk result (AddsRows rows.old rows.new ((word.now ∷ decimal i ∷ rest.now ∷ []) ∷ [])) }
+{
+    let mut number = Buffer::new();
+    add_row(rows, &[word.as_bytes(), number.format(i).as_bytes(), rest])
+}
+
+// Adds a row of a kind with its number, a further number, and one more field.
+fn add_counted(rows: &mut Rows, word: &str, i: u32, count: u32, rest: &[u8]) -> Result<(), NoMemory>
+    requires none { rows.old.current ≡ [] }
+    requires room { length rows.old.closed + 1 < 2 ^ 32 }
+    ensures { OnOk result (AddsRows rows.old rows.new ((word.now ∷ decimal i ∷ decimal count ∷ rest.now ∷ []) ∷ [])) }
+{
+    let mut number = Buffer::new();
+    let mut further = Buffer::new();
+    add_row(
+        rows,
+        &[
+            word.as_bytes(),
+            number.format(i).as_bytes(),
+            further.format(count).as_bytes(),
+            rest,
+        ],
+    )
+}
+
+// Adds a row for each name.
+fn add_names(rows: &mut Rows, names: &Words) -> Result<(), NoMemory>
+    requires none { rows.old.current ≡ [] }
+    requires room { length rows.old.closed + length names.now < 2 ^ 32 }
+    ensures rows { OnOk result (AddsRows rows.old rows.new (numbered node_row 0 names.now)) }
+    ensures count { OnOk result (length rows.new.closed ≡ length rows.old.closed + length names.now) }
+{
+    for i in 0..names.len() {
+        add_numbered(rows, "node", i, names.at(i).as_bytes())?;
+    }
+    Ok(())
+}
+
+// Adds a row for each link.
+fn add_links(rows: &mut Rows, links: &[Link]) -> Result<(), NoMemory>
+    requires none { rows.old.current ≡ [] }
+    requires room { length rows.old.closed + length links.now < 2 ^ 32 }
+    ensures rows { OnOk result (AddsRows rows.old rows.new (numbered link_row 0 links.now)) }
+    ensures count { OnOk result (length rows.new.closed ≡ length rows.old.closed + length links.now) }
+{
+    for (i, link) in links.iter().enumerate() {
+        let mut end = Buffer::new();
+        add_counted(
+            rows,
+            "link",
+            i as u32,
+            link.a,
+            end.format(link.b).as_bytes(),
+        )?;
+    }
+    Ok(())
+}
+
+// Adds a row for each monitor.
+fn add_monitors(rows: &mut Rows, monitors: &[u32]) -> Result<(), NoMemory>
+    requires none { rows.old.current ≡ [] }
+    requires room { length rows.old.closed + length monitors.now < 2 ^ 32 }
+    ensures rows { OnOk result (AddsRows rows.old rows.new (map monitor_row monitors.now)) }
+    ensures count { OnOk result (length rows.new.closed ≡ length rows.old.closed + length monitors.now) }
+{
+    for v in monitors {
+        let mut node = Buffer::new();
+        add_row(rows, &["monitor".as_bytes(), node.format(*v).as_bytes()])?;
+    }
+    Ok(())
+}
+
+// Adds a row for each pocket; `text` is room for the nodes.
+fn add_pockets(rows: &mut Rows, pockets: &[HeldPocket], text: &mut Vec<u8>) -> Result<(), NoMemory>
+    requires none { rows.old.current ≡ [] }
+    requires room { length rows.old.closed + length pockets.now < 2 ^ 32 }
+    ensures rows { OnOk result (AddsRows rows.old rows.new (numbered pocket_row 0 (map part_of pockets.now))) }
+    ensures count { OnOk result (length rows.new.closed ≡ length rows.old.closed + length pockets.now) }
+{
+    for (i, pocket) in pockets.iter().enumerate() {
+        text.clear();
+        numbers_joined(&pocket.nodes, text)?;
+        add_counted(rows, "pocket", i as u32, pocket.need, text)?;
+    }
+    Ok(())
+}
+
+// Adds a row for each path; `text` is room for the nodes.
+fn add_paths(rows: &mut Rows, paths: &PathPool, text: &mut Vec<u8>) -> Result<(), NoMemory>
+    requires none { rows.old.current ≡ [] }
+    requires room { length rows.old.closed + length paths.now < 2 ^ 32 }
+    ensures rows { OnOk result (AddsRows rows.old rows.new (numbered path_row 0 paths.now)) }
+    ensures count { OnOk result (length rows.new.closed ≡ length rows.old.closed + length paths.now) }
+{
+    for i in 0..paths.len() {
+        text.clear();
+        numbers_joined(paths.path(i), text)?;
+        add_numbered(rows, "path", i, text)?;
+    }
+    Ok(())
+}
+
+// Adds a row for each recipe; `text` is room for the terms.
+fn add_recipes(rows: &mut Rows, recipes: &Recipes, text: &mut Vec<u8>) -> Result<(), NoMemory>
+    requires none { rows.old.current ≡ [] }
+    requires room { length rows.old.closed + length recipes.now < 2 ^ 32 }
+    ensures rows { OnOk result (AddsRows rows.old rows.new (numbered recipe_row 0 recipes.now)) }
+    ensures count { OnOk result (length rows.new.closed ≡ length rows.old.closed + length recipes.now) }
+{
+    for i in 0..recipes.len() {
+        text.clear();
+        terms_joined(recipes.at(i).terms(), text)?;
+        add_numbered(rows, "recipe", i, text)?;
+    }
+    Ok(())
+}
+
+/// The rows of a plan: the names, the links, the monitors, the pockets, the paths and the recipes, between a first row with the
+/// format's number and a last row.
+pub fn plan_rows(alloc: Global, plan: &Plan) -> Result<Rows, NoMemory>
+    requires { row_count plan.now < 2 ^ 32 }
+    ensures { IfOk result (λ rows. rows ≡ record { closed = rows_of_plan plan.now; current = [] }) }
+{
+    let mut rows = Rows::new(alloc);
+    let mut text = Vec::new(alloc);
+    add_row(&mut rows, &["plan".as_bytes(), "1".as_bytes()])?;
+    add_names(&mut rows, &plan.names)?;
+    add_links(&mut rows, &plan.links)?;
+    add_monitors(&mut rows, &plan.monitors)?;
+    add_pockets(&mut rows, &plan.pockets, &mut text)?;
+    add_paths(&mut rows, &plan.paths, &mut text)?;
+    add_recipes(&mut rows, &plan.recipes, &mut text)?;
+    add_row(&mut rows, &["end".as_bytes()])?;
+    Ok(rows)
+}

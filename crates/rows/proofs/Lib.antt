@@ -3,3 +3,5 @@ pub mod Counts
 pub mod Records
 pub mod Sizes
 pub mod Fields
+pub mod Totals
+pub mod ReadBack

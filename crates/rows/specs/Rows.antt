@@ -1,6 +1,6 @@
 -- Rows of fields, as they are listed, read and printed.
-use Rattle.std.specs.Prelude.{ℕ, ◌<◌, ◌^◌, List, length, All, true}
-use Rattle.std.specs.List.{flat_map, sum_by}
+use Rattle.std.specs.Prelude.{ℕ, ◌<◌, ◌^◌, List, [], ◌∷◌, length, All, Bool, true, nat_eq, slice_index_or}
+use Rattle.std.specs.List.{flat_map, starts_with, sum_by}
 use Rattle.csv.specs.Reading.{default_config, records, strip_bom}
 use Rattle.csv.specs.Writing.{default_writer, row_text, with_flexible}
 use Rattle.csv.specs.declared.writer.WriterBuilder.{WriterBuilder}
@@ -39,3 +39,19 @@ writer = with_flexible default_writer true
 -- the text of rows, each ended by a line feed
 abbrev pub text_of : List Row → List ℕ
 text_of rows = flat_map (row_text writer) rows
+
+-- each row has at least one field
+abbrev pub AllFilled : List Row → Type 0
+AllFilled rows = All (λ row. 0 < length row) rows
+
+-- how many bytes the fields of all rows have in all
+abbrev pub byte_count : List Row → ℕ
+byte_count rows = sum_by row_bytes rows
+
+-- the first field of the first row, empty where there is none
+abbrev pub first_field : List Row → List ℕ
+first_field rows = slice_index_or (slice_index_or rows 0 []) 0 []
+
+-- whether a field begins with the byte order mark
+abbrev pub begins_with_mark : List ℕ → Bool
+begins_with_mark field = starts_with nat_eq field (0xEF ∷ 0xBB ∷ 0xBF ∷ [])

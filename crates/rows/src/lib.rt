@@ -1,6 +1,7 @@
 //! Rows of fields: read from a text of comma-separated values, and printed as one.
 #![tactic(auto)]
 
+pub mod laws;
 mod list;
 mod places;
 mod printing;
@@ -9,3 +10,6 @@ mod reading;
 pub use list::Rows;
 pub use printing::print_rows;
 pub use reading::read_rows;
+
+#[cfg(test)]
+mod tests;

@@ -15,12 +15,13 @@ pub struct PathPool {
 
 impl Model for PathPool {
     ghost use Rattle.std.specs.Prelude.{ℕ, List, map, vec_len, ◌<◌, ◌^◌};
+    ghost use Rattle.simple_path.specs.Pools.{nodes_in};
 
     ghost Value = { List (List ℕ) };
 
     ghost view = { λ p. map (λ path. path.items) p.paths.items };
 
-    ghost invariant = { λ p. vec_len p.paths < 2 ^ 31 };
+    ghost invariant = { λ p. (vec_len p.paths < 2 ^ 31) × (nodes_in (map (λ path. path.items) p.paths.items) < 2 ^ 31) };
 }
 
 impl PathPool {
@@ -51,6 +52,7 @@ impl PathPool {
     pub fn len(&self) -> u32
         ensures len { result ≡ length self.now }
         ensures few { result < 2 ^ 31 }
+        ensures few_nodes { nodes_in self.now < 2 ^ 31 }
     {
         self.paths.len() as u32
     }

@@ -1,13 +1,16 @@
 -- Nodes that a link joins to a node of a set.
-use Rattle.std.proofs.Common.{◌≡◌, ℕ, ◌<◌, ◌≤◌, Bool, true, false, ◌&&◌, not, List, get_or, IsTrue, sym, ◌∙◌, subst, inl, inr, arith}
+use Rattle.std.proofs.Common.{◌≡◌, ℕ, ◌<◌, ◌≤◌, Bool, true, false, ◌&&◌, not, ◌||◌, ◌==◌, ◌+◌, List, [], ◌∷◌, map, length, All, get_or, IsTrue, refl, ap, sym, ◌∙◌, subst, inl, inr, arith}
 use Rattle.std.specs.List.{list_any}
-use Rattle.std.proofs.lemmas.Bool.{and_parts, and_from, cases_Bool, both_ways, false_from_ne_true}
+use Rattle.std.proofs.lemmas.Bool.{and_parts, and_from, cases_Bool, both_ways, false_from_ne_true, eq-eqb, eqb-true}
+use Rattle.std.specs.List.Sorted.{IsStrictlyIncreasing}
+use Rattle.std.proofs.lemmas.List.{get_or-map, length-map}
 use Rattle.std.proofs.lemmas.List.Folds.{Any-from_list_any, list_any_at}
 use Rattle.tomo_base.specs.declared.graph.Hop.{Hop}
 use Rattle.tomo_base.specs.Network.{Network, linked, IsGraph}
-use Rattle.tomo_base.specs.Sets.{touches, outside, size, degree}
+use Rattle.tomo_base.specs.Sets.{has, touches, outside, size, degree}
 use Rattle.tomo_base.specs.Table.{AreHops, JoinsAt}
-use Rattle.tomo_base.proofs.Counts.{any_below-from, any_below_gives, count-mono}
+use Rattle.tomo_base.proofs.Counts.{any_below-from, any_below_gives, count-mono, count-same}
+use Rattle.tomo_base.proofs.Members.{count-has}
 use Rattle.tomo_base.proofs.Links.{linked_below, linked_comm}
 use Rattle.tomo_base.proofs.Rows.{any_joins-from, any_joins_gives}
 
@@ -51,3 +54,46 @@ pub outside-single : (g : Network) (q : ℕ → Bool) (v : ℕ) → ((w : ℕ) �
 outside-single g q v only = count-mono g.nodes (outside g q) (linked g v) (λ u l h.
     let near = touches_gives g q u (and_parts (not (q u)) (touches g q u) h).1 in
     subst (λ w. linked g w u ≡ true) (only near.0 near.2) (linked_comm g u near.0 near.3))
+
+-- the nodes that hops lead to
+abbrev ends_of : List Hop → List ℕ
+ends_of hops = map (λ (h : Hop). h.node) hops
+
+no_hop : Hop
+no_hop = record { node = 0; link = 0 }
+
+-- one of them is w where a hop leads to it
+has-ends_of : (hops : List Hop) (w : ℕ) → has (ends_of hops) w ≡ list_any (λ h. h.node == w) hops
+unfolding has
+has-ends_of [] w = refl
+has-ends_of (h ∷ hops) w = ap (λ b. (h.node == w) || b) (has-ends_of hops w)
+
+-- a node touches a single node where a link joins them
+touches-single : (g : Network) (v w : ℕ) → IsGraph g → touches g (λ u. u == w) v ≡ linked g v w
+touches-single g v w graph = elim (cases_Bool (linked g v w)) [
+  | inl e ↦ touches-from g (λ u. u == w) v w (linked_below g.nodes g.links v w graph e).1 (eq-eqb w w refl) e ∙ sym e
+  | inr e ↦ false_from_ne_true (touches g (λ u. u == w) v) (λ h.
+      let near = touches_gives g (λ u. u == w) v h in
+      both_ways (linked g v w) e (subst (λ u. linked g v u ≡ true) (eqb-true near.0 w near.2) near.3)) ∙ sym e
+]
+
+-- a node has as many neighbours as hops
+pub length-hops : (g : Network) (v : ℕ) (hops : List Hop) → IsGraph g → AreHops g.links v hops → length hops ≡ degree g v
+length-hops g v hops graph are =
+    sym (length-map hops (λ (h : Hop). h.node)) ∙ (sym (count-has g.nodes (ends_of hops) ascends below) ∙ count-same g.nodes (has (ends_of hops)) (linked g v) (λ w l. same w))
+  where
+    at : (k d : ℕ) → k < length hops → get_or (ends_of hops) k d ≡ (get_or hops k no_hop).node
+    at k d l = get_or-map (λ (h : Hop). h.node) hops k no_hop d l
+
+    ascends : IsStrictlyIncreasing (ends_of hops)
+    ascends k l =
+        let short : k + 1 < length hops = omega (arith, l, length-map hops (λ (h : Hop). h.node)) in
+        rw (at k 0 (omega (arith, short)), at (k + 1) 0 short) (are.ascending k (k + 1) no_hop (omega arith) short)
+
+    below : All (λ w. w < g.nodes) (ends_of hops)
+    below k d l =
+        let short : k < length hops = omega (arith, l, length-map hops (λ (h : Hop). h.node)) in
+        rw (at k d short) (linked_below g.nodes g.links v (get_or hops k no_hop).node graph (any_joins-from g.links (get_or hops k no_hop).link v (get_or hops k no_hop).node (are.sound k no_hop short))).1
+
+    same : (w : ℕ) → has (ends_of hops) w ≡ linked g v w
+    same w = has-ends_of hops w ∙ (touches-hops g (λ u. u == w) v hops graph are ∙ touches-single g v w graph)

@@ -1,0 +1,5 @@
+pub mod Names
+pub mod Distinct
+pub mod Topology
+pub mod Faults
+pub mod Monitors

@@ -1,0 +1,77 @@
+// Why rows are no topology, or no monitors of one.
+use std::alloc::{AllocError, AllocFailed};
+use thiserror::Error;
+use tomo_base::NoMemory as WantOfMemory;
+
+/// Why rows are no topology. Rows are numbered from 1, a header included.
+#[derive(Clone, Copy, Debug, PartialEq, Eq, Error)]
+pub enum TopoFault {
+    /// Memory was wanted and could not be had.
+    #[error("no memory")]
+    NoMemory,
+    /// The row has fewer than two fields.
+    #[error("row {0}: fewer than two fields")]
+    Width(u32),
+    /// A name of the row is no name: it has 0 bytes, more than 64 bytes, or is not UTF-8.
+    #[error("row {0}: a name is not 1 to 64 bytes of UTF-8")]
+    Name(u32),
+    /// The two names of the row are equal.
+    #[error("row {0}: a link from a node to itself")]
+    Loop(u32),
+    /// With this row there are more than 1,000 nodes.
+    #[error("row {0}: more than 1000 nodes")]
+    Nodes(u32),
+    /// With this row there are more than 4,000 links.
+    #[error("row {0}: more than 4000 links")]
+    Links(u32),
+    /// There are fewer than three nodes, so many.
+    #[error("{0} nodes, fewer than 3")]
+    Few(u32),
+    /// The least node that no walk joins to node 0.
+    #[error("no walk joins node {0} to node 0")]
+    Apart(u32),
+}
+
+/// Why rows are no monitors of a topology. Rows are numbered from 1.
+#[derive(Clone, Copy, Debug, PartialEq, Eq, Error)]
+pub enum MonFault {
+    /// Memory was wanted and could not be had.
+    #[error("no memory")]
+    NoMemory,
+    /// The name in the row is the name of no node.
+    #[error("row {0}: no node has this name")]
+    Unknown(u32),
+}
+
+impl From<WantOfMemory> for TopoFault {
+    ghost use Rattle.std.specs.Prelude.{◌≡◌};
+    ghost use Rattle.topology.specs.declared.faults.TopoFault.TheVariants.{NoMemory};
+
+    ghost from_gives = { λ _ e. e ≡ NoMemory };
+
+    fn from(_e: WantOfMemory) -> TopoFault {
+        TopoFault::NoMemory
+    }
+}
+
+impl From<AllocError> for TopoFault {
+    ghost use Rattle.std.specs.Prelude.{◌≡◌};
+    ghost use Rattle.topology.specs.declared.faults.TopoFault.TheVariants.{NoMemory};
+
+    ghost from_gives = { λ _ e. e ≡ NoMemory };
+
+    fn from(_e: AllocError) -> TopoFault {
+        TopoFault::NoMemory
+    }
+}
+
+impl From<WantOfMemory> for MonFault {
+    ghost use Rattle.std.specs.Prelude.{◌≡◌};
+    ghost use Rattle.topology.specs.declared.faults.MonFault.TheVariants.{NoMemory};
+
+    ghost from_gives = { λ _ e. e ≡ NoMemory };
+
+    fn from(_e: WantOfMemory) -> MonFault {
+        MonFault::NoMemory
+    }
+}

@@ -1,0 +1,6 @@
+//! Topologies and monitors, read from rows.
+#![tactic(auto)]
+
+mod faults;
+
+pub use faults::{MonFault, TopoFault};

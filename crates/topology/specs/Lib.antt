@@ -2,4 +2,5 @@ pub mod Names
 pub mod Distinct
 pub mod Topology
 pub mod Faults
+pub mod Draft
 pub mod Monitors

@@ -14,17 +14,25 @@ pub record Topo : Type 0 where
   pub names : List (List ℕ)
   pub graph : Network
 
--- the names in the first two fields of the rows, each once, by first appearance
+-- the names in the first two fields of a row
+abbrev pub row_names : Row → List (List ℕ)
+row_names row = name_at row 0 ∷ name_at row 1 ∷ []
+
+-- the names of the rows, each once, by first appearance
 unfoldable pub names_of : List Row → List (List ℕ)
-names_of rows = distinct bytes_eq (flat_map (λ row. name_at row 0 ∷ name_at row 1 ∷ []) rows)
+names_of rows = distinct bytes_eq (flat_map row_names rows)
 
 -- the node with that name: its place among the names
 unfoldable pub node_of : List (List ℕ) → List ℕ → ℕ
 node_of names name = position_or_len (bytes_eq name) names
 
--- the link between the two nodes that a row names
+-- a link, by its two ends
+abbrev pub link_between : ℕ × ℕ → Link
+link_between ends = record { a = ends.0; b = ends.1 }
+
+-- the link between the two nodes that a row names, lower first
 abbrev pub link_of : List (List ℕ) → Row → Link
-link_of names row = in_order (record { a = node_of names (name_at row 0); b = node_of names (name_at row 1) })
+link_of names row = in_order (link_between (node_of names (name_at row 0), node_of names (name_at row 1)))
 
 -- two links have the same ends
 abbrev pub same_link : Link → Link → Bool

@@ -1,0 +1,100 @@
+-- A list of links, lower end first and each once, is a graph, and stays one when a link is added.
+use Rattle.std.proofs.Common.{◌≡◌, ◌≢◌, ℕ, zero, suc, ◌<◌, ◌≤◌, Bool, true, false, ◌||◌, List, [], ◌∷◌, ◌++◌, length, map, take, slice_get, Some, None, refl, sym, ap, ap₂, ◌∙◌, inl, inr, arith, nat_lt, IsTrue}
+use Rattle.std.specs.List.{list_any}
+use Rattle.std.proofs.lemmas.Bool.{cases_Bool, both_ways, or_parts, or_from, le-ltb, true≢false}
+use Rattle.std.proofs.lemmas.Bool.Decides.{nat_tests}
+use Rattle.indexmap.specs.IndexSet.{insert_key}
+use Rattle.tomo_base.specs.declared.graph.Link.{Link}
+use Rattle.tomo_base.specs.declared.graph.GraphFault.{GraphFault}
+use Rattle.tomo_base.specs.declared.graph.GraphFault.TheVariants.{NoMemory, Range, Loop, Repeat}
+use Rattle.tomo_base.specs.Network.{joins, any_joins, AreLinks}
+use Rattle.tomo_base.specs.Table.{in_order, IsFirst, IsFirstFault}
+use Rattle.tomo_base.proofs.Entering.{in_order_ends}
+use Rattle.tomo_base.proofs.Rows.{AreLinks-push}
+use Rattle.topology.specs.Topology.{link_between, same_link}
+use Rattle.topology.proofs.Distinct.{IsEquality, insert_new, insert_known}
+
+-- two links are the same link where they have the same ends
+pub same_link-Decides : IsEquality same_link
+same_link-Decides l m = (λ h. ends l m (grind (arith, nat_tests)), λ e. rw e (itself m))
+  where
+    ends : (l m : Link) → (l.a ≡ m.a) × (l.b ≡ m.b) → l ≡ m
+    ends l m e = ap₂ (λ (x y : ℕ). link_between (x, y)) e.0 e.1
+
+    itself : (m : Link) → same_link m m ≡ true
+    itself m = grind (arith, nat_tests)
+
+-- a graph stays one where there are more nodes
+pub AreLinks-more : (n m : ℕ) (ls : List Link) → n ≤ m → AreLinks n ls → AreLinks m ls
+AreLinks-more n m [] le are = tt
+AreLinks-more n m (l ∷ ls) le are = (are.0, omega (arith, are.1, le), are.2, AreLinks-more n m ls le are.3)
+
+-- a link that is new joins no two nodes that a link of the graph joins
+pub joins_none : (n : ℕ) (ls : List Link) (l : Link) → AreLinks n ls → l.a < l.b → list_any (same_link l) ls ≡ false → any_joins ls l.a l.b ≡ false
+unfolding any_joins joins
+joins_none n [] l are lt new = refl
+joins_none n (m ∷ ls) l are lt new =
+    let parts = or_parts (same_link l m) (list_any (same_link l) ls) new in
+    or_from _ _ (apart m l are.0 lt parts.0) (joins_none n ls l are.3 lt parts.1)
+  where
+    apart : (m l : Link) → m.a < m.b → l.a < l.b → same_link l m ≡ false → joins m l.a l.b ≡ false
+    apart m l up lt other = grind (arith, nat_tests)
+
+-- a graph stays one when a link between two different nodes is added
+pub links_added : (n : ℕ) (ls : List Link) (l : Link) → AreLinks n ls → l.a < l.b → l.b < n → AreLinks n (insert_key same_link ls l)
+links_added n ls l are lt within = elim (cases_Bool (list_any (same_link l) ls)) [
+  | inl known ↦ rw (insert_known same_link ls l known) are
+  | inr new ↦ rw (insert_new same_link ls l new) (AreLinks-push n ls l are lt within (joins_none n ls l are lt new))
+]
+
+-- the link between two different nodes, lower first
+pub between_ordered : (n a b : ℕ) → a ≢ b → a < n → b < n → ((in_order (link_between (a, b))).a < (in_order (link_between (a, b))).b) × ((in_order (link_between (a, b))).b < n)
+between_ordered n a b ne la lb = elim (in_order_ends (link_between (a, b))) [
+  | inl e ↦ (omega (arith, e.0, e.1, e.2, ne), omega (arith, e.1))
+  | inr e ↦ (omega (arith, e.0, e.1, e.2), omega (arith, e.1))
+]
+
+-- ---- a graph has no fault
+
+-- its links are in order
+pub map-in_order : (n : ℕ) (ls : List Link) → AreLinks n ls → map in_order ls ≡ ls
+map-in_order n [] are = refl
+map-in_order n (l ∷ ls) are = ap₂ ◌∷◌ (rw (le-ltb l.b l.a (omega (arith, are.0))) refl) (map-in_order n ls are.3)
+
+-- each link joins a lower to a higher node
+pub link_at : (n : ℕ) (ls : List Link) (i : ℕ) (l : Link) → AreLinks n ls → slice_get ls i ≡ Some l → (l.a < l.b) × (l.b < n)
+link_at n [] i l are at = cc
+link_at n (m ∷ ls) zero l are at = rw (← some at) (are.0, are.1)
+  where
+    some : {x y : Link} → Some x ≡ Some y → x ≡ y
+    some e = cc
+link_at n (m ∷ ls) (suc i) l are at = link_at n ls i l are.3 at
+
+-- no link before it joins the same two nodes
+pub none_before : (n : ℕ) (ls : List Link) (i : ℕ) (l : Link) → AreLinks n ls → slice_get ls i ≡ Some l → any_joins (take i ls) l.a l.b ≡ false
+unfolding any_joins joins
+none_before n [] i l are at = cc
+none_before n (m ∷ ls) zero l are at = refl
+none_before n (m ∷ ls) (suc i) l are at = or_from _ _ (turned m l (later ls i l m at are.2)) (none_before n ls i l are.3 at)
+  where
+    some : {x y : Link} → Some x ≡ Some y → x ≡ y
+    some e = cc
+
+    later : (xs : List Link) (k : ℕ) (x m : Link) → slice_get xs k ≡ Some x → any_joins xs m.a m.b ≡ false → joins x m.a m.b ≡ false
+    later [] k x m at h = cc
+    later (y ∷ ys) zero x m at h = let same : y ≡ x = some at in rw same at (or_parts (joins y m.a m.b) (any_joins ys m.a m.b) h).0
+    later (y ∷ ys) (suc k) x m at h = later ys k x m at (or_parts _ _ h).1
+
+    turned : (m l : Link) → joins l m.a m.b ≡ false → joins m l.a l.b ≡ false
+    turned m l h = grind (arith, nat_tests)
+
+-- so a graph made of its links can only want memory
+pub no_fault : (n : ℕ) (ls : List Link) (fault : GraphFault) → AreLinks n ls → IsFirstFault n ls fault → fault ≡ NoMemory
+no_fault n ls NoMemory are h = refl
+no_fault n ls (Range i) are (l, first, beyond) =
+    let at : (l.a < l.b) × (l.b < n) = link_at n ls i l are first.there in
+    elim beyond [ inl e ↦ absurd (omega (arith, at.0, at.1, e)) | inr e ↦ absurd (omega (arith, at.1, e)) ]
+no_fault n ls (Loop i) are (l, first, below, equal) =
+    let at : (l.a < l.b) × (l.b < n) = link_at n ls i l are first.there in
+    absurd (omega (arith, at.0, equal))
+no_fault n ls (Repeat i) are (l, first, la, lb, ne, again) = absurd (both_ways (any_joins (take i ls) l.a l.b) (none_before n ls i l are first.there) again)

@@ -1,7 +1,7 @@
 -- A list of links, lower end first and each once, is a graph, and stays one when a link is added.
 use Rattle.std.proofs.Common.{◌≡◌, ◌≢◌, ℕ, zero, suc, ◌<◌, ◌≤◌, Bool, true, false, ◌||◌, List, [], ◌∷◌, ◌++◌, length, map, take, slice_get, Some, None, refl, sym, ap, ap₂, ◌∙◌, inl, inr, arith, nat_lt, IsTrue}
 use Rattle.std.specs.List.{list_any}
-use Rattle.std.proofs.lemmas.Bool.{cases_Bool, both_ways, or_parts, or_from, le-ltb, true≢false}
+use Rattle.std.proofs.lemmas.Bool.{cases_Bool, both_ways, or_parts, or_from, le-ltb, lt-ltb}
 use Rattle.std.proofs.lemmas.Bool.Decides.{nat_tests}
 use Rattle.indexmap.specs.IndexSet.{insert_key}
 use Rattle.tomo_base.specs.declared.graph.Link.{Link}
@@ -98,3 +98,10 @@ no_fault n ls (Loop i) are (l, first, below, equal) =
     let at : (l.a < l.b) × (l.b < n) = link_at n ls i l are first.there in
     absurd (omega (arith, at.0, equal))
 no_fault n ls (Repeat i) are (l, first, la, lb, ne, again) = absurd (both_ways (any_joins (take i ls) l.a l.b) (none_before n ls i l are first.there) again)
+
+-- two ends are put in order by exchanging them where the second is lower
+pub in_order_turned : (a b : ℕ) → b < a → link_between (b, a) ≡ in_order (link_between (a, b))
+in_order_turned a b lt = rw (lt-ltb b a lt) refl
+
+pub in_order_kept : (a b : ℕ) → a ≤ b → link_between (a, b) ≡ in_order (link_between (a, b))
+in_order_kept a b le = rw (le-ltb b a le) refl

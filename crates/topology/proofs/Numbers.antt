@@ -1,8 +1,9 @@
 -- Nodes are numbered by the places of their names: which numbers stay when a name is added, and that they are different.
-use Rattle.std.proofs.Common.{◌≡◌, ◌≢◌, ℕ, ◌+◌, ◌<◌, ◌≤◌, Bool, true, false, not, cond, ◌||◌, List, [], ◌∷◌, ◌++◌, length, get_or, refl, sym, ap, ◌∙◌, inl, inr, arith, All, AllPairs, bytes_eq, Some, None, Option}
+use Rattle.std.proofs.Common.{◌≡◌, ◌≢◌, ℕ, ◌+◌, ◌<◌, ◌≤◌, Bool, true, false, not, cond, ◌||◌, List, [], ◌∷◌, ◌++◌, length, get_or, refl, sym, ap, ◌∙◌, inl, inr, arith, All, AllPairs, bytes_eq, map, nat_lt, position, Some, None}
 use Rattle.std.specs.List.{list_any, position_or_len, IsDistinct}
 use Rattle.std.specs.Cmp.Lexicographic.{nat_list_eq_equiv}
-use Rattle.std.proofs.lemmas.Bool.{cases_Bool, both_ways, or_cases, or_parts, true≢false}
+use Rattle.std.proofs.lemmas.Bool.{cases_Bool, both_ways, or_parts, true≢false, lt-ltb, le-ltb}
+use Rattle.std.proofs.lemmas.List.{length-map}
 use Rattle.std.proofs.lemmas.List.Sums.{passes_at_first}
 use Rattle.std.proofs.lemmas.Map.Keys.{IsDistinct-push, apart_from_distinct}
 use Rattle.std.proofs.lemmas.Slice.Eq.{bytes_eq-Decides}
@@ -39,6 +40,43 @@ position_pushed test [] x h here = rw here refl
 position_pushed test (y ∷ xs) x h here =
     let parts = or_parts (test y) (list_any test xs) h in
     rw parts.0 (omega (arith, position_pushed test xs x parts.1 here))
+
+-- an item stands at the first place within the list, or at none
+pub any_within : {A : Type 0} (test : A → Bool) (xs : List A) → nat_lt (position_or_len test xs) (length xs) ≡ list_any test xs
+any_within test xs = elim (cases_Bool (list_any test xs)) [
+  | inl e ↦ lt-ltb (position_or_len test xs) (length xs) (position_within test xs e) ∙ sym e
+  | inr e ↦ le-ltb (position_or_len test xs) (length xs) (omega (arith, position_past test xs e)) ∙ sym e
+]
+
+-- what a search that finds a place says, and one that finds none
+pub position_found : {A : Type 0} (test : A → Bool) (xs : List A) (i : ℕ) → Some i ≡ position test xs → (i ≡ position_or_len test xs) × (list_any test xs ≡ true)
+position_found test xs i h = elim (cases_Bool (list_any test xs)) [
+  | inl e ↦ (some (h ∙ rw (any_within test xs, e) refl), e)
+  | inr e ↦ absurd (none i (h ∙ rw (any_within test xs, e) refl))
+]
+  where
+    some : {m n : ℕ} → Some m ≡ Some n → m ≡ n
+    some e = cc
+
+    none : (n : ℕ) → Some n ≡ None → ⊥
+    none n e = cc
+
+pub position_missed : {A : Type 0} (test : A → Bool) (xs : List A) → None ≡ position test xs → list_any test xs ≡ false
+position_missed test xs h = elim (cases_Bool (list_any test xs)) [
+  | inl e ↦ absurd (some (position_or_len test xs) (h ∙ rw (any_within test xs, e) refl))
+  | inr e ↦ e
+]
+  where
+    some : (n : ℕ) → None ≡ Some n → ⊥
+    some n e = cc
+
+-- the first place, seen through a map
+pub position-map : {A B : Type 0} (f : A → B) (test : B → Bool) (xs : List A) → position test (map f xs) ≡ position (λ x. test (f x)) xs
+position-map {A = A} f test xs = rw (length-map xs f, first xs) refl
+  where
+    first : (ys : List A) → position_or_len test (map f ys) ≡ position_or_len (λ x. test (f x)) ys
+    first [] = refl
+    first (y ∷ ys) = ap (λ n. cond (not (test (f y))) (1 + n) 0) (first ys)
 
 -- ---- names
 

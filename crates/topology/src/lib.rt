@@ -2,5 +2,8 @@
 #![tactic(auto)]
 
 mod faults;
+mod fields;
+mod links;
+mod names;
 
 pub use faults::{MonFault, TopoFault};

@@ -7,7 +7,7 @@ use Rattle.indexmap.specs.IndexSet.{insert_key}
 use Rattle.tomo_base.specs.declared.graph.Link.{Link}
 use Rattle.tomo_base.specs.declared.graph.GraphFault.{GraphFault}
 use Rattle.tomo_base.specs.declared.graph.GraphFault.TheVariants.{NoMemory, Range, Loop, Repeat}
-use Rattle.tomo_base.specs.Network.{joins, any_joins, AreLinks}
+use Rattle.tomo_base.specs.Network.{Network, joins, any_joins, AreLinks}
 use Rattle.tomo_base.specs.Table.{in_order, IsFirst, IsFirstFault}
 use Rattle.tomo_base.proofs.Entering.{in_order_ends}
 use Rattle.tomo_base.proofs.Rows.{AreLinks-push}
@@ -98,6 +98,13 @@ no_fault n ls (Loop i) are (l, first, below, equal) =
     let at : (l.a < l.b) × (l.b < n) = link_at n ls i l are first.there in
     absurd (omega (arith, at.0, equal))
 no_fault n ls (Repeat i) are (l, first, la, lb, ne, again) = absurd (both_ways (any_joins (take i ls) l.a l.b) (none_before n ls i l are first.there) again)
+
+-- and it is the graph of these links
+pub graph_is : (n : ℕ) (ls : List Link) (g : Network) → AreLinks n ls → g.nodes ≡ n → g.links ≡ map in_order ls → g ≡ record { nodes = n; links = ls }
+graph_is n ls g are nodes links = ap₂ (λ (m : ℕ) (ks : List Link). graph_with m ks) nodes (links ∙ map-in_order n ls are)
+  where
+    graph_with : ℕ → List Link → Network
+    graph_with m ks = record { nodes = m; links = ks }
 
 -- two ends are put in order by exchanging them where the second is lower
 pub in_order_turned : (a b : ℕ) → b < a → link_between (b, a) ≡ in_order (link_between (a, b))

@@ -1,6 +1,11 @@
 pub mod Distinct
 pub mod Numbers
 pub mod Blanks
+pub mod Finding
 pub mod Graphs
 pub mod Drafts
+pub mod RowFaults
+pub mod Reading
+pub mod Ending
+pub mod Named
 pub mod Examples

@@ -1,16 +1,16 @@
 -- What the rows so far name, while rows are read.
-use Rattle.std.specs.Prelude.{ℕ, ◌≡◌, ◌≤◌, List, [], ◌∷◌, ◌++◌, length, All, IsTrue, bytes_eq, None, Some, ⊤}
+use Rattle.std.specs.Prelude.{ℕ, ◌≡◌, ◌≤◌, ◌<◌, false, List, [], ◌∷◌, ◌++◌, length, All, IsTrue, bytes_eq, None, Some, ⊤}
 use Rattle.std.specs.List.{IsDistinct}
 use Rattle.tomo_base.specs.declared.graph.Link.{Link}
-use Rattle.tomo_base.specs.Network.{AreLinks}
+use Rattle.tomo_base.specs.Network.{Network, AreLinks}
 use Rattle.rows.specs.Rows.{Row}
 use Rattle.topology.specs.declared.faults.TopoFault.{TopoFault}
 use Rattle.topology.specs.declared.faults.TopoFault.TheVariants.{NoMemory, Width, Name, Loop, Nodes, Links, Few, Apart}
-use Rattle.topology.specs.Names.{is_name}
+use Rattle.topology.specs.Names.{name_at, is_name}
 use Rattle.topology.specs.Topology.{names_of, links_of}
-use Rattle.topology.specs.Faults.{row_fault}
+use Rattle.topology.specs.Faults.{row_fault, IsFirstApart}
 
--- names and links as those of a topology, but that they may be few and apart
+-- names and links as those of a topology, but for the number of nodes and the walks between them
 pub record IsDraft (names : List (List ℕ)) (links : List Link) : Type 0 where
   pub graph : AreLinks (length names) links
   pub named : All (λ name. IsTrue (is_name name)) names
@@ -24,12 +24,16 @@ pub record IsDraftOf (rows : List Row) (names : List (List ℕ)) (links : List L
   pub links_are : links ≡ links_of rows
   pub draft : IsDraft names links
 
--- the row has no fault after the rows that the draft is of, and leads to a draft of these and the row
-abbrev pub TakesRow : Row → ℕ → List (List ℕ) → List Link → List (List ℕ) → List Link → Type 0
-TakesRow row number names links names' links' = (before : List Row) → IsDraftOf before names links
-    → (row_fault before row number ≡ None) × IsDraftOf (before ++ row ∷ []) names' links'
+-- the two texts are the names of the row, and they may be linked
+pub record LinksNames (row : Row) (first second : List ℕ) : Type 0 where
+  pub wide : 2 ≤ length row
+  pub first_is : first ≡ name_at row 0
+  pub second_is : second ≡ name_at row 1
+  pub first_named : IsTrue (is_name first)
+  pub second_named : IsTrue (is_name second)
+  pub differ : bytes_eq first second ≡ false
 
--- a fault of a row, where memory is no matter of the row's
+-- the row has this fault after these rows; want of memory is no fault of the row
 abbrev pub HasFault : List Row → Row → ℕ → TopoFault → Type 0
 HasFault before row number NoMemory = ⊤
 HasFault before row number (Width r) = row_fault before row number ≡ Some (Width r)
@@ -40,6 +44,22 @@ HasFault before row number (Links r) = row_fault before row number ≡ Some (Lin
 HasFault before row number (Few n) = ⊥
 HasFault before row number (Apart v) = ⊥
 
+-- the row has no fault after the rows that the draft is of, and the new draft is that of these and the row
+abbrev pub TakesRow : Row → ℕ → List (List ℕ) → List Link → List (List ℕ) → List Link → Type 0
+TakesRow row number names links names' links' = (before : List Row) → IsDraftOf before names links
+    → (row_fault before row number ≡ None) × IsDraftOf (before ++ row ∷ []) names' links'
+
 -- the row has this fault after the rows that the draft is of
 abbrev pub RefusesRow : Row → ℕ → List (List ℕ) → List Link → TopoFault → Type 0
 RefusesRow row number names links fault = (before : List Row) → IsDraftOf before names links → HasFault before row number fault
+
+-- why a graph is that of no topology: it has few nodes, or a node is apart
+abbrev pub IsNoTopology : Network → TopoFault → Type 0
+IsNoTopology g NoMemory = ⊤
+IsNoTopology g (Width r) = ⊥
+IsNoTopology g (Name r) = ⊥
+IsNoTopology g (Loop r) = ⊥
+IsNoTopology g (Nodes r) = ⊥
+IsNoTopology g (Links r) = ⊥
+IsNoTopology g (Few n) = (n ≡ g.nodes) × (n < 3)
+IsNoTopology g (Apart v) = (3 ≤ g.nodes) × IsFirstApart g v

@@ -1,0 +1,5 @@
+use Rattle.topology.proofs.Named.{HasNamed}
+use Rattle.topology.proofs.monitors.read_monitors.Given as goal
+
+abbrev pub invariant-loop-place : goal.invariant-loop-place
+invariant-loop-place l = HasNamed l.t.names l.rows.closed l.monitors l.place

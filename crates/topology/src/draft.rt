@@ -1,0 +1,93 @@
+// What the rows so far name, while rows are read one by one.
+ghost use Rattle.std.specs.Prelude.{◌≡◌, ◌+◌, ◌^◌, ◌<◌, ◌≤◌, [], length, slice_index_or, IfOk, IfErr, OnOk, ℕ, List};
+ghost use Rattle.rows.specs.Rows.{Row};
+ghost use Rattle.topology.specs.Draft.{IsDraftOf, LinksNames, HasFault, TakesRow, RefusesRow};
+ghost use Rattle.topology.specs.Faults.{AllFine, IsTopoFault, examined};
+
+use crate::faults::TopoFault;
+use crate::fields::name_in;
+use crate::links::Links;
+use crate::names::Names;
+use rows::Rows;
+use std::alloc::Global;
+
+const NODE_LIMIT: u32 = 1_000;
+
+const LINK_LIMIT: usize = 4_000;
+
+/// The names and the links of the rows so far.
+#[derive(Drop)]
+pub(crate) struct Draft {
+    pub(crate) names: Names,
+    pub(crate) links: Links,
+}
+
+// The names in the first two fields of a row, or the fault that they have without the rows before.
+fn linked_names<'a>(rows: &'a Rows, place: u32) -> Result<(&'a str, &'a str), TopoFault>
+    requires place { place < length rows.now.closed }
+    requires number { place + 1 < 2 ^ 32 }
+    ensures names { IfOk result (λ names. LinksNames (slice_index_or rows.now.closed place []) names.0.now names.1.now) }
+    ensures fault { IfErr result (λ fault. (before : List Row) → HasFault before (slice_index_or rows.now.closed place []) (place + 1) fault) }
+{
+    let row = place + 1;
+    if rows.width(place) < 2 {
+        return Err(TopoFault::Width(row));
+    }
+    let Some(first) = name_in(rows.at(place, 0)) else {
+        return Err(TopoFault::Name(row));
+    };
+    let Some(second) = name_in(rows.at(place, 1)) else {
+        return Err(TopoFault::Name(row));
+    };
+    if first == second {
+        return Err(TopoFault::Loop(row));
+    }
+    Ok((first, second))
+}
+
+impl Draft {
+    // The draft of no rows.
+    fn new(alloc: Global) -> Draft
+        ensures { IsDraftOf [] result.names result.links }
+    {
+        Draft {
+            names: Names::new(alloc),
+            links: Links::new(alloc),
+        }
+    }
+
+    // Adds what one row names.
+    fn add_row(&mut self, alloc: Global, rows: &Rows, place: u32) -> Result<(), TopoFault>
+        requires place { place < length rows.now.closed }
+        requires number { place + 1 < 2 ^ 32 }
+        requires few { length self.old.names ≤ 1000 }
+        ensures takes { OnOk result (TakesRow (slice_index_or rows.now.closed place []) (place + 1) self.old.names self.old.links self.new.names self.new.links) }
+        ensures refuses { IfErr result (RefusesRow (slice_index_or rows.now.closed place []) (place + 1) self.old.names self.old.links) }
+    {
+        let (first, second) = linked_names(rows, place)?;
+        let a = self.names.number(alloc, first)?;
+        let b = self.names.number(alloc, second)?;
+        if self.names.len() > NODE_LIMIT {
+            return Err(TopoFault::Nodes(place + 1));
+        }
+        self.links.add(a, b)?;
+        if self.links.len() > LINK_LIMIT {
+            return Err(TopoFault::Links(place + 1));
+        }
+        Ok(())
+    }
+}
+
+/// What all the rows name, or the fault of the first row that has one. With a header, the first row is not examined.
+pub(crate) fn draft_of(alloc: Global, rows: &Rows, header: bool) -> Result<Draft, TopoFault>
+    ensures draft { IfOk result (λ draft. IsDraftOf (examined header rows.now.closed) draft.names draft.links) }
+    ensures fine { OnOk result (AllFine header rows.now.closed (length rows.now.closed)) }
+    ensures fault { IfErr result (IsTopoFault header rows.now.closed) }
+{
+    let mut draft = Draft::new(alloc);
+    let start = if header { 1 } else { 0 };
+    for place in start..rows.len() {
+        draft.add_row(alloc, rows, place)?;
+    }
+    Ok(draft)
+}

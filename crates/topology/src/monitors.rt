@@ -1,0 +1,28 @@
+// Monitors, read from rows.
+ghost use Rattle.std.specs.Prelude.{◌≡◌, length, IfOk, IfErr, OnOk};
+ghost use Rattle.topology.specs.Monitors.{AllKnown, IsMonFault, monitors_of};
+
+use crate::faults::MonFault;
+use crate::topology::Topology;
+use rows::Rows;
+use std::alloc::Global;
+use tomo_base::NodeSet;
+
+/// Reads the monitors that rows name: the nodes of a topology whose names stand in the first fields of the rows, without the
+/// spaces and tabs at their ends. A name given twice counts once. Refused is the first row whose name no node has.
+pub fn read_monitors(alloc: Global, t: &Topology, rows: &Rows) -> Result<NodeSet, MonFault>
+    ensures monitors { IfOk result (λ monitors. monitors ≡ monitors_of t.now.names rows.now.closed) }
+    ensures known { OnOk result (AllKnown t.now.names rows.now.closed (length rows.now.closed)) }
+    ensures fault { IfErr result (IsMonFault t.now.names rows.now.closed) }
+{
+    let mut monitors = NodeSet::new(alloc);
+    for place in 0..rows.len() {
+        let Some(v) = t.node_in(rows.at(place, 0)) else {
+            return Err(MonFault::Unknown(place + 1));
+        };
+        monitors.insert(v)?;
+    }
+    // The nodes that a set lends ascend, so this set is the one list of the monitors.
+    let _ascending = monitors.as_slice();
+    Ok(monitors)
+}

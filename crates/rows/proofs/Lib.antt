@@ -5,3 +5,4 @@ pub mod Sizes
 pub mod Fields
 pub mod Totals
 pub mod ReadBack
+pub mod TextSizes

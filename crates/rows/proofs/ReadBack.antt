@@ -1,6 +1,5 @@
 -- What is printed is read back.
 use Rattle.std.proofs.Common.{◌≡◌, ◌∙◌, refl, ℕ, ◌<◌, ◌∷◌, ◌++◌, ◌==◌, ◌&&◌, List, [], length, arith, None, Bool, true, false, inl, inr, append_assoc, suc}
-use Rattle.std.specs.Prelude.{if◌then◌else◌}
 use Rattle.std.proofs.lemmas.Bool.{cases_Bool}
 use Rattle.std.proofs.lemmas.Bool.Decides.{nat_tests}
 use Rattle.std.proofs.Math.Bool.{and-false}
@@ -12,6 +11,7 @@ use Rattle.csv.proofs.RoundTrip.{read-write}
 use Rattle.rows.specs.Rows.{Row, writer, text_of, AllFilled, first_field, begins_with_mark}
 use Rattle.rows.specs.Laws.{ReadsBack}
 use Rattle.rows.proofs.Records.{all-records}
+use Rattle.rows.proofs.TextSizes.{row_end}
 
 -- a writer of rows of any length writes each row as the default writer does
 same-escaped : (field : List ℕ) → escaped writer field ≡ escaped default_writer field
@@ -91,10 +91,6 @@ BeginsPlain (b ∷ rest) = IsNoMark b
 kept-start : (field rest : List ℕ) → begins_with_mark field ≡ false → BeginsPlain rest → strip_bom (field ++ rest) ≡ field ++ rest
 kept-start field [] plain other = absurd other
 kept-start field (b ∷ rest) plain other = kept-field field b rest plain other
-
--- quotes around nothing, where the row is blank, and the line's end
-abbrev row_end : Bool → List ℕ
-row_end blank = (if blank then 34 ∷ 34 ∷ [] else []) ++ 10 ∷ []
 
 row-end-plain : (rest : Row) (blank : Bool) (more : List ℕ) → BeginsPlain (fields_text writer rest ++ (row_end blank ++ more))
 unfolding fields_text

@@ -1,6 +1,6 @@
 -- Rows of fields, as they are listed, read and printed.
-use Rattle.std.specs.Prelude.{ℕ, ◌<◌, ◌^◌, List, [], ◌∷◌, length, All, Bool, true, nat_eq, slice_index_or}
-use Rattle.std.specs.List.{flat_map, starts_with, sum_by}
+use Rattle.std.specs.Prelude.{ℕ, ◌+◌, ◌*◌, ◌<◌, ◌^◌, ◌==◌, ◌||◌, not, if◌then◌else◌, List, [], ◌∷◌, length, All, Bool, true, nat_eq, slice_index_or}
+use Rattle.std.specs.List.{flat_map, list_all, starts_with, sum_by}
 use Rattle.csv.specs.Reading.{default_config, records, strip_bom}
 use Rattle.csv.specs.Writing.{default_writer, row_text, with_flexible}
 use Rattle.csv.specs.declared.writer.WriterBuilder.{WriterBuilder}
@@ -55,3 +55,16 @@ first_field rows = slice_index_or (slice_index_or rows 0 []) 0 []
 -- whether a field begins with the byte order mark
 abbrev pub begins_with_mark : List ℕ → Bool
 begins_with_mark field = starts_with nat_eq field (0xEF ∷ 0xBB ∷ 0xBF ∷ [])
+
+-- whether a field is printed as it stands: it has no comma, no quote and no line's end
+abbrev pub is_plain : List ℕ → Bool
+is_plain field = list_all (λ b. not ((b == 44) || (b == 34) || (b == 13) || (b == 10))) field
+
+-- how many bytes a printed field has at most: in quotes, each of its bytes may be a doubled quote
+abbrev pub field_size : List ℕ → ℕ
+field_size field = if is_plain field then length field else 2 * length field + 2
+
+-- how many bytes a printed row has at most: each field with what ends it, and what stands for a
+-- row that shows no byte
+abbrev pub row_size : Row → ℕ
+row_size row = sum_by (λ field. field_size field + 1) row + 3

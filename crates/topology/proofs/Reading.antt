@@ -8,7 +8,7 @@ use Rattle.topology.specs.declared.faults.TopoFault.{TopoFault}
 use Rattle.topology.specs.declared.faults.TopoFault.TheVariants.{NoMemory, Width, Name, Loop, Nodes, Links, Few, Apart}
 use Rattle.topology.specs.Topology.{names_of, links_of, topo_of, IsTopology}
 use Rattle.topology.specs.Faults.{skipped, examined, fault_at, AllFine, IsFirstRowFault, IsTopoFault}
-use Rattle.topology.specs.Draft.{IsDraft, IsDraftOf, HasFault}
+use Rattle.topology.specs.Draft.{IsDraftOf, HasFault, IsOfRow}
 
 -- none is examined before the place after the header
 pub examined_none : (header : Bool) (rows : List Row) → examined header (take (skipped header) rows) ≡ []
@@ -75,3 +75,25 @@ read_more header rows names names' links links' i within read taken = record {
 pub read_all : (header : Bool) (rows : List Row) (names : List (List ℕ)) (links : List Link) (i : ℕ) → length rows ≤ i → HasRead header rows names links i
     → IsDraftOf (examined header rows) names links × AllFine header rows (length rows)
 read_all header rows names links i past read = (rw (← examined_all header rows i past) read.draft, λ k after before. read.fine k after (omega (arith, before, past)))
+
+-- what a row has is a fault of a row
+pub has_of_row : (before : List Row) (row : Row) (number : ℕ) (fault : TopoFault) → HasFault before row number fault → IsOfRow fault
+has_of_row before row number NoMemory has = tt
+has_of_row before row number (Width r) has = tt
+has_of_row before row number (Name r) has = tt
+has_of_row before row number (Loop r) has = tt
+has_of_row before row number (Nodes r) has = tt
+has_of_row before row number (Links r) has = tt
+has_of_row before row number (Few n) has = has
+has_of_row before row number (Apart v) has = has
+
+-- rows without a fault have none of a row
+pub no_row_fault : (header : Bool) (rows : List Row) (fault : TopoFault) → AllFine header rows (length rows) → IsTopoFault header rows fault → IsOfRow fault → (fault ≡ NoMemory → ⊥) → ⊥
+no_row_fault header rows NoMemory fine first of_row other = other refl
+no_row_fault header rows (Width r) fine first of_row other = cc (fine first.place first.after_header first.within, first.here)
+no_row_fault header rows (Name r) fine first of_row other = cc (fine first.place first.after_header first.within, first.here)
+no_row_fault header rows (Loop r) fine first of_row other = cc (fine first.place first.after_header first.within, first.here)
+no_row_fault header rows (Nodes r) fine first of_row other = cc (fine first.place first.after_header first.within, first.here)
+no_row_fault header rows (Links r) fine first of_row other = cc (fine first.place first.after_header first.within, first.here)
+no_row_fault header rows (Few n) fine first of_row other = of_row
+no_row_fault header rows (Apart v) fine first of_row other = of_row

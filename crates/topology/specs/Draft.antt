@@ -63,3 +63,14 @@ IsNoTopology g (Nodes r) = ⊥
 IsNoTopology g (Links r) = ⊥
 IsNoTopology g (Few n) = (n ≡ g.nodes) × (n < 3)
 IsNoTopology g (Apart v) = (3 ≤ g.nodes) × IsFirstApart g v
+
+-- the fault is one of a row, or want of memory
+abbrev pub IsOfRow : TopoFault → Type 0
+IsOfRow NoMemory = ⊤
+IsOfRow (Width r) = ⊤
+IsOfRow (Name r) = ⊤
+IsOfRow (Loop r) = ⊤
+IsOfRow (Nodes r) = ⊤
+IsOfRow (Links r) = ⊤
+IsOfRow (Few n) = ⊥
+IsOfRow (Apart v) = ⊥

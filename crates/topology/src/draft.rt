@@ -1,7 +1,7 @@
 // What the rows so far name, while rows are read one by one.
 ghost use Rattle.std.specs.Prelude.{◌≡◌, ◌+◌, ◌^◌, ◌<◌, ◌≤◌, [], length, slice_index_or, IfOk, IfErr, OnOk, ℕ, List};
 ghost use Rattle.rows.specs.Rows.{Row};
-ghost use Rattle.topology.specs.Draft.{IsDraftOf, LinksNames, HasFault, TakesRow, RefusesRow};
+ghost use Rattle.topology.specs.Draft.{IsDraftOf, LinksNames, HasFault, TakesRow, RefusesRow, IsOfRow};
 ghost use Rattle.topology.specs.Faults.{AllFine, IsTopoFault, examined};
 
 use crate::faults::TopoFault;
@@ -83,6 +83,7 @@ pub(crate) fn draft_of(alloc: Global, rows: &Rows, header: bool) -> Result<Draft
     ensures draft { IfOk result (λ draft. IsDraftOf (examined header rows.now.closed) draft.names draft.links) }
     ensures fine { OnOk result (AllFine header rows.now.closed (length rows.now.closed)) }
     ensures fault { IfErr result (IsTopoFault header rows.now.closed) }
+    ensures of_row { IfErr result IsOfRow }
 {
     let mut draft = Draft::new(alloc);
     let start = if header { 1 } else { 0 };

@@ -7,8 +7,10 @@ mod fields;
 mod links;
 mod monitors;
 mod names;
+mod naming;
 mod topology;
 
 pub use faults::{MonFault, TopoFault};
 pub use monitors::read_monitors;
+pub use naming::nth_name;
 pub use topology::{Topology, read_topology};

@@ -1,14 +1,30 @@
--- What the files of the machine keep, and what a reading of one file leaves.
-use Rattle.std.specs.Prelude.{ℕ, ◌≡◌, ◌<◌, ◌≤◌, List, [], length, Option, Result, Ok, Err, IfSome}
+-- What the files of the machine keep, what a reading of one file leaves, and what standard output
+-- counts.
+use Rattle.std.specs.Prelude.{ℕ, ◌≡◌, ◌<◌, ◌≤◌, ◌⊎◌, ◌++◌, List, [], ◌∷◌, length, Option, Result, Ok, Err, IfSome}
 use Rattle.std.specs.Io.KnownBytes.{Consumes}
+use Rattle.outside.specs.Causes.{counted}
 use Rattle.outside.specs.declared.shelf.Got.{Got}
 use Rattle.outside.specs.declared.shelf.Got.TheVariants.{Whole, TooLong}
 use Rattle.outside.specs.declared.shelf.ShelfFault.{ShelfFault}
+use Rattle.outside.specs.declared.shelf.ShelfFault.TheVariants.{NoMemory, Failed}
+use Rattle.outside.specs.declared.sink.SinkFault.{SinkFault}
 
 -- the names asked for so far, and how often a read failed
 pub record FileReads : Type 0 where
   pub asked : List (List ℕ)
   pub faults : ℕ
+
+-- the files after a read of a name with this answer, which asked for it; want of memory may have
+-- come before that
+abbrev pub IsAfterRead : FileReads → FileReads → List ℕ → Result Got ShelfFault → Type 0
+IsAfterRead old new name (Ok got) = new ≡ record old { asked = old.asked ++ name ∷ [] }
+IsAfterRead old new name (Err Failed) = new ≡ record { asked = old.asked ++ name ∷ []; faults = counted old.faults }
+IsAfterRead old new name (Err NoMemory) = (new ≡ record old { asked = old.asked ++ name ∷ [] }) ⊎ (new ≡ old)
+
+-- the count of faults of standard output after a write with this answer
+abbrev pub faults_after : ℕ → Result ℕ SinkFault → ℕ
+faults_after faults (Ok k) = faults
+faults_after faults (Err e) = counted faults
 
 -- the whole of what a reader has left, where it tells that, or nothing where that is longer than
 -- the limit or can't be had

@@ -1,6 +1,8 @@
 // The files of the machine.
-ghost use Rattle.std.specs.Prelude.{◌≡◌, ◌+◌, [], None, false};
-ghost use Rattle.outside.specs.Devices.{ReadsAll, TakesAtMost};
+ghost use Rattle.std.specs.Prelude.{◌≡◌, ◌≤◌, ◌+◌, [], None, false};
+ghost use Rattle.outside.specs.Causes.{Rose};
+ghost use Rattle.outside.specs.Devices.{IsAfterRead, ReadsAll, TakesAtMost};
+ghost use Rattle.outside.specs.Shelf.{Asks, Gives, IsHonest};
 
 use crate::{Got, Shelf, ShelfFault};
 use std::alloc::Global;
@@ -46,7 +48,7 @@ impl<'a, R: Files> FileShelf<'a, R> {
 }
 
 // What a reader has left, up to `limit` bytes. Each turn takes at least one byte or ends, and the
-// last is the one that brings more than the limit.
+// last is the one that brings more than the limit. A read that was interrupted has failed.
 fn take_all<F: Read>(file: &mut F, limit: u64, out: &mut Vec<u8>) -> Result<Got, ShelfFault>
     requires { out.old.items ≡ [] }
     ensures reads { ReadsAll (F.remaining file.old) limit result out.new.items }
@@ -89,7 +91,17 @@ impl<'a, R: Files> Shelf for FileShelf<'a, R> {
         name: &str,
         limit: u64,
         out: &mut Vec<u8>,
-    ) -> Result<Got, ShelfFault> {
+    ) -> Result<Got, ShelfFault>
+        requires { out.old.items ≡ [] }
+        ensures asks { Asks self.old.asked self.new.asked name.now result }
+        ensures gives { Gives None name.now limit result out.new.items }
+        ensures later { self.old.faults ≤ self.new.faults }
+        ensures cause { result ≡ Err ShelfFault.Failed → Rose self.old.faults self.new.faults }
+        ensures honest { IsHonest None false name.now self.old.faults self.new.faults result }
+
+        // It counts a fault exactly where it failed.
+        ensures after { IsAfterRead self.old self.new name.now result }
+    {
         let asked = match String::from_str(self.alloc, name) {
             Ok(asked) => asked,
             Err(_) => return Err(ShelfFault::NoMemory),

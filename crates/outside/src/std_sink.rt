@@ -1,6 +1,9 @@
 // Standard output.
-ghost use Rattle.std.specs.Prelude.{◌≡◌, ◌≤◌, ◌<◌, None, IfOk, length, take};
-ghost use Rattle.std.specs.Io.KnownBytes.{Appends};
+ghost use Rattle.std.specs.Prelude.{◌≡◌, ◌≤◌, ◌<◌, None, IfOk, OnErr, length, take};
+ghost use Rattle.std.specs.Io.KnownBytes.{Appends, WriteAppends};
+ghost use Rattle.outside.specs.Causes.{Rose};
+ghost use Rattle.outside.specs.Devices.{faults_after};
+ghost use Rattle.outside.specs.Sink.{TakesSure};
 
 use crate::{Sink, SinkFault};
 use std::io;
@@ -54,7 +57,17 @@ impl<'a, R: Print> Sink for StdSink<'a, R> {
 
     ghost faults = { λ s. s };
 
-    fn write(&mut self, bytes: &[u8]) -> Result<usize, SinkFault> {
+    fn write(&mut self, bytes: &[u8]) -> Result<usize, SinkFault>
+        requires { 0 < length bytes.now }
+        ensures count { IfOk result (λ k. (0 < k) × (k ≤ length bytes.now)) }
+        ensures taken { WriteAppends None None result bytes.now }
+        ensures later { self.old ≤ self.new }
+        ensures cause { OnErr result (Rose self.old self.new) }
+        ensures sure { TakesSure 0 0 self.old self.new bytes.now result }
+
+        // It counts a fault exactly where it failed.
+        ensures after { self.new ≡ faults_after self.old result }
+    {
         let result = put_some(&mut self.out, bytes);
         if result.is_err() {
             self.faults = self.faults.saturating_add(1);

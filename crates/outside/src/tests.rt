@@ -1,7 +1,9 @@
 use crate::{FileShelf, Got, MemShelf, MemSink, Shelf, ShelfFault, Sink, SinkFault, StdSink};
 use std::alloc::Global;
-use std::fs;
+use std::cell::RefCell;
+use std::fmt::Display;
 use std::test::Fail;
+use std::{fs, io};
 
 // What a read answers, and whether it gave this content.
 fn read_of<S: Shelf>(
@@ -38,10 +40,49 @@ fn a_file_is_read_whole_up_to_its_length(rt: HostRuntime) -> Result<(), Fail> {
     Ok(())
 }
 
+// A printer with room for five bytes, which takes up to three at a time.
+#[derive(Drop)]
+struct Page {
+    bytes: RefCell<Vec<u8>>,
+}
+
+impl Print for Page {
+    fn print<D: Display + Drop>(&self, _value: D) -> io::Result<()> {
+        Ok(())
+    }
+
+    fn println<D: Display + Drop>(&self, _value: D) -> io::Result<()> {
+        Ok(())
+    }
+
+    fn write_all(&self, _bytes: &[u8]) -> io::Result<()> {
+        Ok(())
+    }
+
+    fn write_some(&self, bytes: &[u8]) -> io::Result<usize> {
+        let Ok(mut page) = self.bytes.try_borrow_mut() else {
+            return Ok(0);
+        };
+        let room = 5_usize.saturating_sub(page.len());
+        let count = bytes.len().min(3).min(room);
+        page.extend_from_slice(&bytes[..count])?;
+        Ok(count)
+    }
+}
+
 #[test]
-fn standard_output_takes_a_piece(rt: HostRuntime) -> Result<(), Fail> {
-    let mut sink = StdSink::new(&rt);
-    assert!(rt; matches!(sink.write(b"a,b\n"), Ok(1..=4)));
+fn a_printer_is_handed_each_piece(rt: HostRuntime) -> Result<(), Fail> {
+    let page = Page {
+        bytes: RefCell::new(Vec::new(rt.alloc())),
+    };
+    let mut sink = StdSink::new(&page);
+    assert_eq!(rt; sink.write(b"abcd"), Ok(3));
+    assert_eq!(rt; sink.write(b"def"), Ok(2));
+    assert_eq!(rt; sink.write(b"f"), Err(SinkFault));
+    assert!(rt;
+        matches!(page.bytes.try_borrow(), Ok(bytes) if bytes.as_slice() == b"abcde".as_slice())
+    );
+    assert!(rt; matches!(StdSink::new(&rt).write(b"a,b\n"), Ok(1..=4)));
     Ok(())
 }
 

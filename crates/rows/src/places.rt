@@ -14,7 +14,8 @@ fn start_at(ends: &[usize], place: usize) -> usize
 pub fn width_at(_bytes: &[u8], ends: &[usize], row_ends: &[usize], row: usize) -> usize
     requires cut { IsCut _bytes.now ends.now row_ends.now }
     requires row { row < length row_ends.now }
-    ensures { result ≡ length (slice_index_or (view_of _bytes.now ends.now row_ends.now).closed row []) }
+    ensures { result ≡ length (slice_index_or
+        (view_of _bytes.now ends.now row_ends.now).closed row []) }
 {
     let start = start_at(row_ends, row);
     let end = row_ends[row];
@@ -32,7 +33,8 @@ pub fn field_at<'a>(
     requires cut { IsCut bytes.now ends.now row_ends.now }
     requires row { row < length row_ends.now }
     requires field { slice_index (0 ∷ row_ends.now) row + field < slice_index row_ends.now row }
-    ensures { result.now ≡ slice_index_or (slice_index_or (view_of bytes.now ends.now row_ends.now).closed row []) field [] }
+    ensures { result.now ≡ slice_index_or (slice_index_or
+        (view_of bytes.now ends.now row_ends.now).closed row []) field [] }
 {
     let limit = row_ends[row];
     prove!(limit <= ends.len());

@@ -1,23 +1,34 @@
 // The text of rows.
-ghost use Rattle.std.specs.Prelude.{◌≡◌, ◌<◌, [], length, IfOk, map, slice_index_or};
-ghost use Rattle.rows.specs.Rows.{text_of};
+ghost use Rattle.std.specs.Prelude.{◌≡◌, ◌<◌, [], length, IfOk, OnOk, Some, slice_index_or};
+ghost use Rattle.std.specs.Io.KnownBytes.{Appends};
+ghost use Rattle.csv.specs.Writing.{row_text, text_written};
+ghost use Rattle.rows.specs.Rows.{text_of, writer as settings};
+ghost use Rattle.rows.specs.Writing.{IsBetweenRows};
 
 use crate::Rows;
-use csv::WriterBuilder;
+use csv::{Writer, WriterBuilder};
 use std::alloc::Global;
 use tomo_base::NoMemory;
 
-// The fields of a row.
-fn fields_in<'a>(alloc: Global, rows: &'a Rows, row: u32) -> Result<Vec<&'a [u8]>, NoMemory>
-    requires { row < length rows.now.closed }
-    ensures { IfOk result (λ fields.
-        map (λ f. f.now) fields.items ≡ slice_index_or rows.now.closed row []) }
+// Writes a row and its end.
+fn write_row(writer: &mut Writer<Vec<u8>>, rows: &Rows, row: u32) -> Result<(), NoMemory>
+    requires row { row < length rows.now.closed }
+    requires between { IsBetweenRows writer.old }
+    ensures between { OnOk result (IsBetweenRows writer.new) }
+    ensures text { OnOk result (Appends
+        (text_written (λ v. Some v.items) writer.old) (text_written (λ v. Some v.items) writer.new)
+        (row_text settings (slice_index_or rows.now.closed row []))) }
 {
-    let mut fields = Vec::new(alloc);
     for field in 0..rows.width(row) {
-        fields.push(rows.at(row, field))?;
+        match writer.write_field(rows.at(row, field)) {
+            Ok(()) => {}
+            Err(_) => return Err(NoMemory),
+        }
     }
-    Ok(fields)
+    match writer.end_record() {
+        Ok(()) => Ok(()),
+        Err(_) => Err(NoMemory),
+    }
 }
 
 /// The text of the closed rows: their fields parted by commas, each row ended by a line feed. A
@@ -29,10 +40,7 @@ pub fn print_rows(alloc: Global, rows: &Rows) -> Result<Vec<u8>, NoMemory>
         .flexible(true)
         .from_writer(Vec::new(alloc));
     for row in 0..rows.len() {
-        let fields = fields_in(alloc, rows, row)?;
-        if writer.write_fields(&fields).is_err() {
-            return Err(NoMemory);
-        }
+        write_row(&mut writer, rows, row)?;
     }
     match writer.into_inner() {
         Ok(text) => Ok(text),

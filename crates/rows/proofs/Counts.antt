@@ -5,6 +5,7 @@ use Rattle.rows.specs.Rows.{RowList, IsFullRow, IsCounted}
 use Rattle.rows.specs.Layout.{view_of, IsCut}
 use Rattle.rows.proofs.Cuts.{field-view, close-view, closed-length}
 
+-- the list after a field is added, and after a row is closed
 counted-field : (rows : RowList) (more : List ℕ) → IsCounted rows → length rows.current + 1 < 2 ^ 32
     → IsCounted (record rows { current = rows.current ++ more ∷ [] })
 counted-field rows more is room = record {

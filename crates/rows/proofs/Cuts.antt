@@ -5,9 +5,11 @@ use Rattle.csv.specs.Records.{Rising, last_end}
 use Rattle.csv.proofs.RecordFacts.{rising-last, rising-first, rising-end, rising-more, last-append}
 use Rattle.rows.specs.Layout.{cut, view_of, IsCut}
 
+-- a part that lies in the front isn't changed by what follows
 take-part : {A : Type 0} (xs more : List A) (start n : ℕ) → start ≤ length xs → start + n ≤ length xs → take n (drop start (xs ++ more)) ≡ take n (drop start xs)
 take-part xs more start n a b = grind (arith, common_steps)
 
+-- nor are parts that all lie in the front
 pub cut-more : {A : Type 0} (start : ℕ) (ends : List ℕ) (xs more : List A) → Rising start ends (length xs) → cut start ends (xs ++ more) ≡ cut start ends xs
 unfolding cut Rising
 cut-more start [] xs more r = refl
@@ -17,20 +19,24 @@ cut-more start (end ∷ ends) xs more r =
     let le3 : start + (end - start) ≤ length xs = omega (arith, r.0, le) in
     rw (take-part xs more start (end - start) le2 le3, cut-more end ends xs more r.1) refl
 
+-- there are as many parts as places
 pub cut-length : {A : Type 0} (start : ℕ) (ends : List ℕ) (xs : List A) → length (cut start ends xs) ≡ length ends
 unfolding cut
 cut-length start [] xs = refl
 cut-length start (end ∷ ends) xs = omega (arith, cut-length end ends xs)
 
+-- a part up to the end
 take-all-of : {A : Type 0} (xs : List A) (start : ℕ) → take (length xs - start) (drop start xs) ≡ drop start xs
 take-all-of xs start = grind (arith, common_steps)
 
+-- one more place, at the end, cuts off what is left
 pub cut-end : {A : Type 0} (start : ℕ) (ends : List ℕ) (xs : List A)
     → cut start (ends ++ length xs ∷ []) xs ≡ cut start ends xs ++ drop (last_end start ends) xs ∷ []
 unfolding cut last_end
 cut-end start [] xs = rw (take-all-of xs start) refl
 cut-end start (end ∷ ends) xs = ap (λ r. take (end - start) (drop start xs) ∷ r) (cut-end end ends xs)
 
+-- what is left after a front
 drop-front : (xs ys : List ℕ) → drop (length xs) (xs ++ ys) ≡ ys
 drop-front xs ys = grind (arith, common_steps)
 
@@ -52,9 +58,10 @@ pub field-cut : (bytes ends row_ends more : List ℕ) → IsCut bytes ends row_e
 field-cut bytes ends row_ends more is = record {
   fields = rising-end 0 ends _ (rising-more 0 ends (length bytes) _ is.fields (rw length-append (omega arith)));
   whole = last-append 0 ends _;
-  rows = rising-more 0 row_ends (length ends) _ is.rows (rw length-append (omega arith));
+  rows = rising-more 0 row_ends (length ends) _ is.rows (omega (arith, length-append ends (length (bytes ++ more) ∷ [])));
 }
 
+-- the places after a row is closed
 pub close-view : (bytes ends row_ends : List ℕ) → IsCut bytes ends row_ends
     → view_of bytes ends (row_ends ++ length ends ∷ []) ≡ record { closed = (view_of bytes ends row_ends).closed ++ (view_of bytes ends row_ends).current ∷ []; current = [] }
 close-view bytes ends row_ends is =
@@ -65,6 +72,7 @@ close-view bytes ends row_ends is =
 pub close-cut : (bytes ends row_ends : List ℕ) → IsCut bytes ends row_ends → IsCut bytes ends (row_ends ++ length ends ∷ [])
 close-cut bytes ends row_ends is = record { fields = is.fields; whole = is.whole; rows = rising-end 0 row_ends _ is.rows }
 
+-- no bytes and no places
 pub none-cut : IsCut [] [] []
 unfolding Rising last_end
 none-cut = record { fields = omega arith; whole = refl; rows = omega arith }
@@ -73,6 +81,7 @@ pub none-view : view_of [] [] [] ≡ record { closed = []; current = [] }
 unfolding cut last_end
 none-view = refl
 
+-- there are as many closed rows as places of rows
 pub closed-length : (bytes ends row_ends : List ℕ) → length (view_of bytes ends row_ends).closed ≡ length row_ends
 closed-length bytes ends row_ends = cut-length 0 row_ends _
 
@@ -88,6 +97,7 @@ rising-at start [] size i r lt = absurd (omega arith)
 rising-at start (end ∷ ends) size zero r lt = (r.0, rising-first end ends size r.1)
 rising-at start (end ∷ ends) size (suc i) r lt = rising-at end ends size i r.1 (omega arith)
 
+-- the part at a place
 pub cut-at : {A : Type 0} (start : ℕ) (ends : List ℕ) (xs : List A) (i : ℕ) → i < length ends
     → get_or (cut start ends xs) i [] ≡ take (get_or ends i 0 - get_or (start ∷ ends) i 0) (drop (get_or (start ∷ ends) i 0) xs)
 unfolding cut
@@ -95,6 +105,7 @@ cut-at start [] xs i lt = absurd (omega arith)
 cut-at start (end ∷ ends) xs zero lt = refl
 cut-at start (end ∷ ends) xs (suc i) lt = cut-at end ends xs i (omega arith)
 
+-- an element of a part, and how long a part is
 part-at : {A : Type 0} (xs : List A) (m n k : ℕ) (d : A) → k < n → get_or (take n (drop m xs)) k d ≡ get_or xs (m + k) d
 part-at xs m n k d lt = grind (arith, common_steps)
 

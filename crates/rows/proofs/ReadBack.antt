@@ -33,10 +33,12 @@ same-row [] = refl
 same-row (field ∷ []) = rw (same-field field, same-fields []) refl
 same-row (field ∷ next ∷ rest) = rw (same-field field, same-fields (next ∷ rest)) refl
 
+-- a row with a field reads back as it is
 filled-back : (row : Row) → 0 < length row → read_back row ≡ row
 filled-back [] lt = absurd (omega arith)
 filled-back (x ∷ rest) lt = refl
 
+-- the records of a printed text, one by one
 reached-printed : (rows : List Row) → AllFilled rows → Reached default_config st.StartRecord (text_of rows) rows st.StartRecord []
 unfolding Reached
 reached-printed [] all = (refl, refl)
@@ -62,6 +64,7 @@ other-first a [] other = refl
 other-first a (b ∷ []) other = refl
 other-first a (b ∷ c ∷ rest) other = rw other refl
 
+-- the test of the mark, as `csv` writes it and as a prefix
 eq-flip : (a b : ℕ) → (a == b) ≡ (b == a)
 eq-flip a b = grind (arith, nat_tests)
 
@@ -92,6 +95,7 @@ kept-start : (field rest : List ℕ) → begins_with_mark field ≡ false → Be
 kept-start field [] plain other = absurd other
 kept-start field (b ∷ rest) plain other = kept-field field b rest plain other
 
+-- after the first field comes a comma, a quote or the line's end
 row-end-plain : (rest : Row) (blank : Bool) (more : List ℕ) → BeginsPlain (fields_text writer rest ++ (row_end blank ++ more))
 unfolding fields_text
 row-end-plain [] true more = (refl, refl, refl)

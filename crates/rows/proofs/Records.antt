@@ -1,4 +1,4 @@
--- What the records of a text are.
+-- The records that a reader reaches one by one are the records of the text.
 use Rattle.std.proofs.Common.{◌≡◌, sym, ap, refl, subst, ℕ, suc, zero, ◌+◌, ◌<◌, ◌≤◌, List, [], ◌∷◌, ◌++◌, length, true, false, Option, Some, None, arith, length-append, inl, inr, unwrap_or, ◌==◌}
 use Rattle.std.proofs.lemmas.Bool.{cases_Bool}
 use Rattle.csv.specs.Machine.{next_record, step, in_field, start_field, start_record, ends_with, is_end, ends_at_end, fields_after, field_after, Read}
@@ -11,9 +11,11 @@ use Rattle.csv.specs.declared.parser.State.TheVariants as st
 use Rattle.csv.specs.declared.parser.Action.{Action}
 use Rattle.csv.specs.declared.parser.Action.TheVariants as act
 
+-- two reads are equal where their options are
 pub some-inj : (x y : Read) → Some x ≡ Some y → x ≡ y
 some-inj x y e = ap (λ (o : Option Read). unwrap_or o x) e
 
+-- the byte that ends a record adds a field
 end-fields : (a : Action) (fields : List (List ℕ)) (field : List ℕ) → is_end a ≡ true → 0 < length (fields_after a fields field)
 end-fields act.EndRecord fields field e = rw length-append (omega arith)
 end-fields act.Skip fields field e = cc e
@@ -37,6 +39,7 @@ read-filled cfg s fields field (c ∷ rest) q e = elim (cases_Bool (is_end (step
   | inr fails ↦ read-filled cfg (step cfg s c).0 (fields_after (step cfg s c).1 fields field) (field_after (step cfg s c).1 c field) rest q (rw fails at e)
 ]
 
+-- a byte that ends a record leaves a state that the end of the text doesn't end, from each state
 ended-in-field : (c : ℕ) → is_end (in_field default_config c).1 ≡ true → ends_at_end (in_field default_config c).0 ≡ false
 ended-in-field c e = elim (cases_Bool (c == 44)) [
   | inl comma ↦ cc (rw comma at e)
@@ -63,7 +66,6 @@ ended-start-record c e = elim (cases_Bool (ends_with term.CRLF c)) [
       rw same (ended-start-field c (rw same at e))
 ]
 
--- a state between two records
 ended : (s : State) (c : ℕ) → is_end (step default_config s c).1 ≡ true → ends_at_end (step default_config s c).0 ≡ false
 ended st.StartRecord c e = ended-start-record c e
 ended st.StartField c e = ended-start-field c e
@@ -124,5 +126,6 @@ reached-all (suc n) s s2 xs ys (row ∷ rows) lt fails r e =
 pub all-records : (xs : List ℕ) (rows : List (List (List ℕ))) → AreRecords default_config st.StartRecord xs rows → records default_config xs ≡ rows
 all-records xs rows (s2, ys, r, e) = reached-all (length xs + 1) st.StartRecord s2 xs ys rows (omega arith) refl r e
 
+-- a list of rows with an empty open row
 pub list-of : (rows : RowList) (closed : List (List (List ℕ))) → closed ≡ rows.closed → rows.current ≡ [] → rows ≡ record { closed = closed; current = [] }
 list-of rows closed e none = λ i. record { closed = sym e i; current = none i }

@@ -51,6 +51,7 @@ pub record IsRead (fields : Row) (left : ℕ) : Type 0 where
   pub filled : 0 < length fields
   pub few : length fields ≤ left + 1
 
+-- the same of a read that was made
 next-read : (o : Option Read) (f : Row) (s2 : State) (z : List ℕ) (left : ℕ) → ((q : Read) → o ≡ Some q → IsRead q.0 left) → NextIs o true f s2 z → IsRead f left
 next-read None f s2 z left h n = cc n
 next-read (Some p) f s2 z left h n = subst (λ (g : Row). IsRead g left) (sym n.1) (h p refl)

@@ -20,6 +20,7 @@ plain-unquoted : (field : List ℕ) → not (needs_quotes writer field) ≡ is_p
 plain-unquoted [] = refl
 plain-unquoted (b ∷ rest) = rw (← plain-unquoted rest) (plain-byte (b == 44) (b == 34) (b == 13) (b == 10) (needs_quotes writer rest))
 
+-- between quotes each byte may be doubled
 escaped-size : (field : List ℕ) → length (escaped writer field) ≤ 2 * length field
 unfolding escaped
 escaped-size [] = omega arith
@@ -39,6 +40,7 @@ field-size field =
       | inr bare ↦ rw (← same, bare) (omega arith)
     ]
 
+-- the fields after the first, each with its comma
 fields-size : (fields : Row) → length (fields_text writer fields) ≤ sum_by (λ field. field_size field + 1) fields
 unfolding fields_text
 fields-size [] = omega arith

@@ -12,6 +12,7 @@ use Rattle.rows.specs.Laws.{FieldsFit, RowsFit}
 use Rattle.rows.proofs.Records.{read-filled, read-shortens}
 use Rattle.rows.proofs.Sizes.{read-size, strip-short}
 
+-- what holds of a row of so many bytes of text, and of all its rows
 abbrev IsWithin : ℕ → Row → Type 0
 IsWithin size row = (0 < length row) × (length row ≤ size + 1)
 
@@ -40,6 +41,7 @@ next-within s xs more between rest (Some q) e =
           (λ k d lt. let within = after.each k d lt in (within.0, omega (arith, within.1, less)));
     }
 
+-- the rows of a text, from a state between two records
 from-within : (n : ℕ) (s : State) (xs : List ℕ) → ends_at_end s ≡ false → AreWithin (records_from default_config n s xs) (length xs)
 unfolding records_from
 from-within zero s xs between = record { count = omega arith; bytes = omega arith; each = All-nil (IsWithin (length xs)) }

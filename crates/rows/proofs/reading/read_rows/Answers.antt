@@ -16,51 +16,62 @@ loop-row-init c =
     let start = c.into_iter-row-iterator.ensures.into_iter_gives ∙ refl in
     let rdr = c.into_byte_records-row-items.ensures.rdr in
     let left = c.into_byte_records-row-items.ensures.left in
-    rw (start, rdr, c.new-rows.ensures) (
-      rw (f, e) at fr.trim ∙ c.new.ensures.trim,
-      inr (inr (rw (f, e) at fr.has_headers, fr.headers)),
-      left,
-      rw (f, e) at fr.config ∙ c.new.ensures.config,
-      strip_bom c.args.bytes.now,
-      fr.source,
-      (sym fr.state, refl),
-      refl,
-      rw f at fr.flexible,
-    )
+    rw (start, rdr, c.new-rows.ensures) (record {
+      rest = strip_bom c.args.bytes.now;
+      source = fr.source;
+      reached = (sym fr.state, refl);
+      none = refl;
+      config = rw (f, e) at fr.config ∙ c.new.ensures.config;
+      trim = rw (f, e) at fr.trim ∙ c.new.ensures.trim;
+      ready = inr (inr (rw (f, e) at fr.has_headers, fr.headers));
+      flexible = rw f at fr.flexible;
+      turns = left;
+    })
 
 pub add_record-requires-clause-filled : goal.add_record-requires-clause-filled
 add_record-requires-clause-filled c =
     let inv = c.loop-row.invariant in
-    let s = rw (c.in-Some.is, c.in-Ok.is) at ((c.next.ensures.steps inv.2 inv.0).0 inv.1) in
-    (record-is c.loop-row.row-iterator.rdr.config _ inv.4 _ _ _ inv.3 (rw inv.5 at s.0.0)).filled
+    let step = rw (c.in-Some.is, c.in-Ok.is) at ((c.next.ensures.steps inv.turns inv.trim).0 inv.ready) in
+    (record-is c.loop-row.row-iterator.rdr.config _ inv.rest _ _ _ inv.config (rw inv.source at step.0.0)).filled
 
 pub add_record-requires-clause-fits : goal.add_record-requires-clause-fits
 add_record-requires-clause-fits c =
     let inv = c.loop-row.invariant in
-    let s = rw (c.in-Some.is, c.in-Ok.is) at ((c.next.ensures.steps inv.2 inv.0).0 inv.1) in
-    let few = (record-is c.loop-row.row-iterator.rdr.config _ inv.4 _ _ _ inv.3 (rw inv.5 at s.0.0)).few in
-    let count = reached-count st.StartRecord _ (strip_bom c.args.bytes.now) inv.4 c.loop-row.rows.closed refl inv.6 in
+    let step = rw (c.in-Some.is, c.in-Ok.is) at ((c.next.ensures.steps inv.turns inv.trim).0 inv.ready) in
+    let few = (record-is c.loop-row.row-iterator.rdr.config _ inv.rest _ _ _ inv.config (rw inv.source at step.0.0)).few in
+    let count = reached-count st.StartRecord _ (strip_bom c.args.bytes.now) inv.rest c.loop-row.rows.closed refl inv.reached in
     omega (arith, few, count, strip-short c.args.bytes.now, c.requires)
 
 pub add_record-requires-clause-room : goal.add_record-requires-clause-room
 add_record-requires-clause-room c =
     let inv = c.loop-row.invariant in
-    let count = reached-count st.StartRecord _ (strip_bom c.args.bytes.now) inv.4 c.loop-row.rows.closed refl inv.6 in
+    let count = reached-count st.StartRecord _ (strip_bom c.args.bytes.now) inv.rest c.loop-row.rows.closed refl inv.reached in
     omega (arith, count, strip-short c.args.bytes.now, c.requires)
 
 pub loop-row-preserved : goal.loop-row-preserved
 loop-row-preserved c =
     let inv = c.loop-row.invariant in
-    let s = rw (c.in-Some.is, c.in-Ok.is) at ((c.next.ensures.steps inv.2 inv.0).0 inv.1) in
-    let m = rows-more (λ (s : Bor (List ℕ)). Some s.now) c.loop-row.row-iterator.rdr c.next.new.self.rdr (fields_of c.in-Ok.row) default_config st.StartRecord (strip_bom c.args.bytes.now) inv.4 c.loop-row.rows.closed inv.3 inv.5 inv.6 s.0 in
-    let flexible = (rw (c.in-Some.is, c.in-Ok.is) at (c.next.ensures.steps inv.2 inv.0)).3 in
+    let steps = rw (c.in-Some.is, c.in-Ok.is) at (c.next.ensures.steps inv.turns inv.trim) in
+    let step = rw (c.in-Some.is, c.in-Ok.is) at ((c.next.ensures.steps inv.turns inv.trim).0 inv.ready) in
+    let more = rows-more (λ (s : Bor (List ℕ)). Some s.now) c.loop-row.row-iterator.rdr c.next.new.self.rdr (fields_of c.in-Ok.row) default_config st.StartRecord
+    (strip_bom c.args.bytes.now) inv.rest c.loop-row.rows.closed inv.config inv.source inv.reached step.0 in
     let added = c.in_ok-add_record-in-Ok.ensures in
-    (s.0.3 ∙ inv.0, inl s.1, s.2, s.0.2 ∙ inv.3, m.0, m.1, rw added m.2, rw added refl, flexible ∙ inv.8)
+    record {
+      rest = more.0;
+      source = more.1;
+      reached = rw added more.2;
+      none = rw added refl;
+      config = step.0.2 ∙ inv.config;
+      trim = step.0.3 ∙ inv.trim;
+      ready = inl step.1;
+      flexible = steps.3 ∙ inv.flexible;
+      turns = step.2;
+    }
 
 pub returns : goal.returns
 returns c =
     let inv = c.loop-row.invariant in
-    let s = rw c.in-None.is at ((c.next.ensures.steps inv.2 inv.0).0 inv.1) in
-    let end = rows-end (λ (s : Bor (List ℕ)). Some s.now) c.loop-row.row-iterator.rdr c.next.new.self.rdr [] default_config inv.4 inv.3 inv.5 s in
-    let all = all-records (strip_bom c.args.bytes.now) c.loop-row.rows.closed (c.loop-row.row-iterator.rdr.state, inv.4, inv.6, end) in
-    list-of c.loop-row.rows _ all inv.7
+    let step = rw c.in-None.is at ((c.next.ensures.steps inv.turns inv.trim).0 inv.ready) in
+    let end = rows-end (λ (s : Bor (List ℕ)). Some s.now) c.loop-row.row-iterator.rdr c.next.new.self.rdr [] default_config inv.rest inv.config inv.source step in
+    let all = all-records (strip_bom c.args.bytes.now) c.loop-row.rows.closed (c.loop-row.row-iterator.rdr.state, inv.rest, inv.reached, end) in
+    list-of c.loop-row.rows _ all inv.none

@@ -1,12 +1,6 @@
-use Rattle.std.proofs.Common.{◌≡◌, ◌<◌, ℕ, List, Some, [], true}
-use Rattle.csv.specs.Reading.{Reached, Ready, default_config, source_of, strip_bom, is_flexible}
-use Rattle.csv.specs.declared.parser.State.TheVariants as st
-use Rattle.csv.specs.declared.reader.Trim.TheVariants as trim
+use Rattle.csv.specs.Reading.{strip_bom}
+use Rattle.rows.proofs.Loop.{IsReading}
 use Rattle.rows.proofs.reading.read_rows.Given as goal
 
 abbrev pub invariant-loop-row : goal.invariant-loop-row
-invariant-loop-row l = (l.row-iterator.rdr.trim ≡ trim.None) × Ready l.row-iterator.rdr × (0 < l.row-iterator.left) × (l.row-iterator.rdr.config ≡ default_config)
-    × (y : List ℕ) × (source_of (λ s. Some s.now) l.row-iterator.rdr ≡ Some y)
-    × Reached default_config st.StartRecord (strip_bom l.fn.bytes) l.rows.closed l.row-iterator.rdr.state y
-    × (l.rows.current ≡ [])
-    × (is_flexible l.row-iterator.rdr ≡ true)
+invariant-loop-row l = IsReading (strip_bom l.fn.bytes) l.row-iterator.rdr l.row-iterator.left l.rows

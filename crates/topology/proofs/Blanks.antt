@@ -1,5 +1,5 @@
 -- Which bytes of a field stay when the blanks at its ends go.
-use Rattle.std.proofs.Common.{◌≡◌, ℕ, ◌+◌, ◌-◌, ◌<◌, ◌≤◌, Bool, true, false, not, ◌&&◌, nat_le, List, [], ◌∷◌, ◌++◌, length, take, drop, reverse, get_or, refl, sym, ap, ◌∙◌, arith, IsUtf8, IsTrue, IfSome, IfNone, Result, Ok, Err, Bor}
+use Rattle.std.proofs.Common.{◌≡◌, ℕ, ◌+◌, ◌-◌, ◌<◌, ◌≤◌, true, false, List, [], ◌∷◌, length, take, drop, reverse, get_or, refl, sym, ap, ◌∙◌, arith, IsUtf8, IsTrue, IfSome, IfNone, Result, Ok, Err, Bor}
 use Rattle.std.specs.Str.{is_utf8}
 use Rattle.std.specs.Result.{MatchResult, result_ok}
 use Rattle.std.proofs.lemmas.Bool.{and_left, and_right, and_from, lt-leb, le-leb, false_from_ne_true}

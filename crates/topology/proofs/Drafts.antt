@@ -1,13 +1,12 @@
 -- What one more row does to the names and the links of rows, and to a draft of them.
-use Rattle.std.proofs.Common.{◌≡◌, ◌≢◌, ℕ, ◌+◌, ◌<◌, ◌≤◌, Bool, true, false, ◌||◌, List, [], ◌∷◌, ◌++◌, length, map, refl, sym, ap, ap₂, ◌∙◌, inl, inr, arith, All, IsTrue, bytes_eq}
+use Rattle.std.proofs.Common.{◌≡◌, ℕ, ◌≤◌, true, false, List, [], ◌∷◌, ◌++◌, length, map, refl, sym, ap, ap₂, ◌∙◌, arith, IsTrue, bytes_eq}
 use Rattle.std.specs.List.{list_any, flat_map, IsDistinct}
 use Rattle.std.proofs.lemmas.Bool.{or_left, or_right}
-use Rattle.std.proofs.lemmas.List.{map_push, append_assoc, flat_map_more, length_push}
+use Rattle.std.proofs.lemmas.List.{map_push, append_assoc, flat_map_more}
 use Rattle.std.proofs.lemmas.List.Elements.{All-nil}
 use Rattle.std.proofs.lemmas.Slice.Eq.{bytes_eq-Decides}
 use Rattle.indexmap.specs.IndexSet.{insert_key}
 use Rattle.tomo_base.specs.declared.graph.Link.{Link}
-use Rattle.tomo_base.specs.Network.{AreLinks}
 use Rattle.tomo_base.specs.Table.{in_order}
 use Rattle.rows.specs.Rows.{Row}
 use Rattle.topology.specs.Names.{name_at, is_name}

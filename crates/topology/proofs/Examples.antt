@@ -1,5 +1,5 @@
 -- The definitions on a few small rows: what they name, and which fault they have.
-use Rattle.std.proofs.Common.{◌≡◌, ℕ, List, [], ◌∷◌, refl, Some, None, true, false}
+use Rattle.std.proofs.Common.{◌≡◌, ℕ, List, [], ◌∷◌, refl, Some, true}
 use Rattle.std.specs.Prelude.{codes}
 use Rattle.std.specs.Str.{is_utf8, chars}
 use Rattle.tomo_base.specs.Sets.{members}
@@ -10,7 +10,7 @@ use Rattle.topology.specs.Names.{after_blanks, trimmed, is_name}
 use Rattle.topology.specs.Distinct.{distinct}
 use Rattle.topology.specs.Topology.{names_of, node_of, links_of, topo_of}
 use Rattle.topology.specs.Faults.{row_fault, fault_at}
-use Rattle.topology.specs.Monitors.{monitors_of, is_known}
+use Rattle.topology.specs.Monitors.{monitors_of}
 
 -- a row of two fields
 abbrev pair : List ℕ → List ℕ → Row

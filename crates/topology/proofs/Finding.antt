@@ -1,8 +1,7 @@
 -- Which node a search for a name finds.
-use Rattle.std.proofs.Common.{◌≡◌, ◌≢◌, ℕ, ◌<◌, ◌≤◌, Bool, true, false, List, [], length, get_or, slice_get, refl, sym, ap, ◌∙◌, inl, inr, arith, All, AllPairs, IsTrue, bytes_eq, position, Some, None, Option, IfSome, IfNone}
+use Rattle.std.proofs.Common.{◌≡◌, ◌≢◌, ℕ, ◌<◌, false, List, [], length, get_or, slice_get, refl, sym, ap, ◌∙◌, inl, inr, arith, All, AllPairs, IsTrue, bytes_eq, position, Some, None, Option, IfSome, IfNone}
 use Rattle.std.specs.List.{list_any, position_or_len}
 use Rattle.std.proofs.lemmas.Bool.{cases_Bool, both_ways, false_from_ne_true, lt-ltb}
-use Rattle.std.proofs.lemmas.List.{get_or_default}
 use Rattle.std.proofs.lemmas.List.Folds.{list_any_none}
 use Rattle.std.proofs.lemmas.List.Sums.{passes_at_first, position_or_len_is}
 use Rattle.std.proofs.lemmas.Option.{slice_get-get_or, get_or_from_slice_get, slice_get_within}

@@ -1,13 +1,12 @@
 -- What is known of the rows up to a place, one row on and at the end.
-use Rattle.std.proofs.Common.{◌≡◌, ℕ, ◌+◌, ◌<◌, ◌≤◌, Bool, true, false, List, [], ◌∷◌, ◌++◌, length, take, drop, get_or, refl, sym, ap, ◌∙◌, inl, inr, arith, Some, None}
+use Rattle.std.proofs.Common.{◌≡◌, ℕ, ◌+◌, ◌<◌, ◌≤◌, Bool, List, [], ◌∷◌, ◌++◌, length, take, get_or, ap, inl, inr, arith, None}
 use Rattle.std.proofs.lemmas.Bool.{cases_eq}
-use Rattle.std.proofs.lemmas.List.{take_more, take_all, drop_all, drop-append-le, length-take-le, length-take}
+use Rattle.std.proofs.lemmas.List.{take_more, take_all, drop_all, drop-append-le, length-take}
 use Rattle.rows.specs.Rows.{Row}
 use Rattle.tomo_base.specs.declared.graph.Link.{Link}
 use Rattle.topology.specs.declared.faults.TopoFault.{TopoFault}
 use Rattle.topology.specs.declared.faults.TopoFault.TheVariants.{NoMemory, Width, Name, Loop, Nodes, Links, Few, Apart}
-use Rattle.topology.specs.Topology.{names_of, links_of, topo_of, IsTopology}
-use Rattle.topology.specs.Faults.{skipped, examined, fault_at, AllFine, IsFirstRowFault, IsTopoFault}
+use Rattle.topology.specs.Faults.{skipped, examined, fault_at, AllFine, IsTopoFault}
 use Rattle.topology.specs.Draft.{IsDraftOf, HasFault, IsOfRow}
 
 -- none is examined before the place after the header

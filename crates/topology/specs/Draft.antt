@@ -1,14 +1,14 @@
 -- What the rows so far name, while rows are read.
-use Rattle.std.specs.Prelude.{ℕ, ◌≡◌, ◌≤◌, ◌<◌, false, List, [], ◌∷◌, ◌++◌, length, All, IsTrue, bytes_eq, None, Some, ⊤}
+use Rattle.std.specs.Prelude.{ℕ, ◌≡◌, ◌≤◌, ◌+◌, false, List, [], ◌∷◌, ◌++◌, length, All, IsTrue, bytes_eq, None, Some, ⊤}
 use Rattle.std.specs.List.{IsDistinct}
 use Rattle.tomo_base.specs.declared.graph.Link.{Link}
-use Rattle.tomo_base.specs.Network.{Network, AreLinks}
+use Rattle.tomo_base.specs.Network.{AreLinks}
 use Rattle.rows.specs.Rows.{Row}
 use Rattle.topology.specs.declared.faults.TopoFault.{TopoFault}
 use Rattle.topology.specs.declared.faults.TopoFault.TheVariants.{NoMemory, Width, Name, Loop, Nodes, Links, Few, Apart}
-use Rattle.topology.specs.Names.{name_at, is_name}
+use Rattle.topology.specs.Names.{row_at, name_at, is_name}
 use Rattle.topology.specs.Topology.{names_of, links_of}
-use Rattle.topology.specs.Faults.{row_fault, IsFirstApart}
+use Rattle.topology.specs.Faults.{row_fault}
 
 -- names and links as those of a topology, but for the number of nodes and the walks between them
 pub record IsDraft (names : List (List ℕ)) (links : List Link) : Type 0 where
@@ -44,25 +44,18 @@ HasFault before row number (Links r) = row_fault before row number ≡ Some (Lin
 HasFault before row number (Few n) = ⊥
 HasFault before row number (Apart v) = ⊥
 
--- the row has no fault after the rows that the draft is of, and the new draft is that of these and the row
-abbrev pub TakesRow : Row → ℕ → List (List ℕ) → List Link → List (List ℕ) → List Link → Type 0
-TakesRow row number names links names' links' = (before : List Row) → IsDraftOf before names links
-    → (row_fault before row number ≡ None) × IsDraftOf (before ++ row ∷ []) names' links'
+-- the row at the place has this fault after any rows
+abbrev pub HasOwnFault : List Row → ℕ → TopoFault → Type 0
+HasOwnFault rows i fault = (before : List Row) → HasFault before (row_at rows i) (i + 1) fault
 
--- the row has this fault after the rows that the draft is of
-abbrev pub RefusesRow : Row → ℕ → List (List ℕ) → List Link → TopoFault → Type 0
-RefusesRow row number names links fault = (before : List Row) → IsDraftOf before names links → HasFault before row number fault
+-- the row at the place has this fault after the rows that the draft is of
+abbrev pub RefusesRow : List Row → ℕ → List (List ℕ) → List Link → TopoFault → Type 0
+RefusesRow rows i names links fault = (before : List Row) → IsDraftOf before names links → HasFault before (row_at rows i) (i + 1) fault
 
--- why a graph is that of no topology: it has few nodes, or a node is apart
-abbrev pub IsNoTopology : Network → TopoFault → Type 0
-IsNoTopology g NoMemory = ⊤
-IsNoTopology g (Width r) = ⊥
-IsNoTopology g (Name r) = ⊥
-IsNoTopology g (Loop r) = ⊥
-IsNoTopology g (Nodes r) = ⊥
-IsNoTopology g (Links r) = ⊥
-IsNoTopology g (Few n) = (n ≡ g.nodes) × (n < 3)
-IsNoTopology g (Apart v) = (3 ≤ g.nodes) × IsFirstApart g v
+-- it has none after the rows that the draft is of, and the new draft is that of these and the row
+abbrev pub TakesRow : List Row → ℕ → List (List ℕ) → List Link → List (List ℕ) → List Link → Type 0
+TakesRow rows i names links names' links' = (before : List Row) → IsDraftOf before names links
+    → (row_fault before (row_at rows i) (i + 1) ≡ None) × IsDraftOf (before ++ row_at rows i ∷ []) names' links'
 
 -- the fault is one of a row, or want of memory
 abbrev pub IsOfRow : TopoFault → Type 0

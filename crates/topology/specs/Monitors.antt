@@ -1,15 +1,15 @@
 -- The monitors that rows name, and the first row that names no node.
-use Rattle.std.specs.Prelude.{ℕ, ◌≡◌, ◌<◌, ◌+◌, Bool, true, false, List, [], length, slice_index_or, bytes_eq, IsTrue, ⊤}
+use Rattle.std.specs.Prelude.{ℕ, ◌≡◌, ◌<◌, ◌+◌, Bool, false, List, [], length, slice_index_or, bytes_eq, IsTrue, ⊤}
 use Rattle.std.specs.List.{list_any}
 use Rattle.tomo_base.specs.Sets.{members}
 use Rattle.rows.specs.Rows.{Row}
 use Rattle.topology.specs.declared.faults.MonFault.{MonFault}
 use Rattle.topology.specs.declared.faults.MonFault.TheVariants.{NoMemory, Unknown}
-use Rattle.topology.specs.Names.{name_at}
+use Rattle.topology.specs.Names.{row_at, name_at}
 
 -- the row at place i names a node
 unfoldable pub is_known : List (List ℕ) → List Row → ℕ → Bool
-is_known names rows i = list_any (bytes_eq (name_at (slice_index_or rows i []) 0)) names
+is_known names rows i = list_any (bytes_eq (name_at (row_at rows i) 0)) names
 
 -- the nodes whose names stand in the first fields of the rows, ascending
 unfoldable pub monitors_of : List (List ℕ) → List Row → List ℕ

@@ -16,6 +16,10 @@ after_blanks (b ∷ bs) = if is_blank b then after_blanks bs else b ∷ bs
 unfoldable pub trimmed : List ℕ → List ℕ
 trimmed field = reverse (after_blanks (reverse (after_blanks field)))
 
+-- the row at a place
+abbrev pub row_at : List Row → ℕ → Row
+row_at rows i = slice_index_or rows i []
+
 -- the name in a field of a row
 abbrev pub name_at : Row → ℕ → List ℕ
 name_at row k = trimmed (slice_index_or row k [])

@@ -42,9 +42,13 @@ same_link l m = (l.a == m.a) && (l.b == m.b)
 unfoldable pub links_of : List Row → List Link
 links_of rows = distinct same_link (map (link_of (names_of rows)) rows)
 
+-- a node for each name, and these links
+abbrev pub topo_with : List (List ℕ) → List Link → Topo
+topo_with names links = record { names = names; graph = record { nodes = length names; links = links } }
+
 -- the names and the graph of the rows
 abbrev pub topo_of : List Row → Topo
-topo_of rows = record { names = names_of rows; graph = record { nodes = length (names_of rows); links = links_of rows } }
+topo_of rows = topo_with (names_of rows) (links_of rows)
 
 -- what every topology keeps
 pub record IsTopology (t : Topo) : Type 0 where

@@ -1,8 +1,8 @@
 // What the rows so far name, while rows are read one by one.
-ghost use Rattle.std.specs.Prelude.{◌≡◌, ◌+◌, ◌^◌, ◌<◌, ◌≤◌, [], length, slice_index_or, IfOk, IfErr, OnOk, ℕ, List};
-ghost use Rattle.rows.specs.Rows.{Row};
-ghost use Rattle.topology.specs.Draft.{IsDraftOf, LinksNames, HasFault, TakesRow, RefusesRow, IsOfRow};
+ghost use Rattle.std.specs.Prelude.{◌≡◌, ◌+◌, ◌^◌, ◌<◌, ◌≤◌, [], length, IfOk, IfErr, OnOk};
+ghost use Rattle.topology.specs.Draft.{IsDraftOf, LinksNames, HasOwnFault, TakesRow, RefusesRow, IsOfRow};
 ghost use Rattle.topology.specs.Faults.{AllFine, IsTopoFault, examined};
+ghost use Rattle.topology.specs.Names.{row_at};
 
 use crate::faults::TopoFault;
 use crate::fields::name_in;
@@ -26,8 +26,8 @@ pub(crate) struct Draft {
 fn linked_names<'a>(rows: &'a Rows, place: u32) -> Result<(&'a str, &'a str), TopoFault>
     requires place { place < length rows.now.closed }
     requires number { place + 1 < 2 ^ 32 }
-    ensures names { IfOk result (λ names. LinksNames (slice_index_or rows.now.closed place []) names.0.now names.1.now) }
-    ensures fault { IfErr result (λ fault. (before : List Row) → HasFault before (slice_index_or rows.now.closed place []) (place + 1) fault) }
+    ensures names { IfOk result (λ p. LinksNames (row_at rows.now.closed place) p.0.now p.1.now) }
+    ensures fault { IfErr result (HasOwnFault rows.now.closed place) }
 {
     let row = place + 1;
     if rows.width(place) < 2 {
@@ -61,8 +61,10 @@ impl Draft {
         requires place { place < length rows.now.closed }
         requires number { place + 1 < 2 ^ 32 }
         requires few { length self.old.names ≤ 1000 }
-        ensures takes { OnOk result (TakesRow (slice_index_or rows.now.closed place []) (place + 1) self.old.names self.old.links self.new.names self.new.links) }
-        ensures refuses { IfErr result (RefusesRow (slice_index_or rows.now.closed place []) (place + 1) self.old.names self.old.links) }
+        ensures takes { OnOk result (TakesRow rows.now.closed place
+            self.old.names self.old.links self.new.names self.new.links) }
+        ensures refuses { IfErr result (RefusesRow rows.now.closed place
+            self.old.names self.old.links) }
     {
         let (first, second) = linked_names(rows, place)?;
         let a = self.names.number(alloc, first)?;
@@ -78,9 +80,11 @@ impl Draft {
     }
 }
 
-/// What all the rows name, or the fault of the first row that has one. With a header, the first row is not examined.
+/// What all the rows name, or the fault of the first row that has one. With a header, the first row
+/// is not examined.
 pub(crate) fn draft_of(alloc: Global, rows: &Rows, header: bool) -> Result<Draft, TopoFault>
-    ensures draft { IfOk result (λ draft. IsDraftOf (examined header rows.now.closed) draft.names draft.links) }
+    ensures draft { IfOk result (λ draft.
+        IsDraftOf (examined header rows.now.closed) draft.names draft.links) }
     ensures fine { OnOk result (AllFine header rows.now.closed (length rows.now.closed)) }
     ensures fault { IfErr result (IsTopoFault header rows.now.closed) }
     ensures of_row { IfErr result IsOfRow }

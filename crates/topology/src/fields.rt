@@ -42,9 +42,11 @@ fn trimmed(field: &[u8]) -> &[u8]
     without_last_blanks(without_first_blanks(field))
 }
 
-/// The name in a field: what the field holds without the spaces and tabs at its ends, where that is 1 to 64 bytes of UTF-8.
+/// The name in a field: what it holds without the spaces and tabs at its ends, where that is 1 to 64
+/// bytes of UTF-8.
 pub(crate) fn name_in(field: &[u8]) -> Option<&str>
-    ensures name { IfSome result (λ name. (name.now ≡ spec.trimmed field.now) × IsTrue (is_name name.now)) }
+    ensures name { IfSome result (λ name.
+        (name.now ≡ spec.trimmed field.now) × IsTrue (is_name name.now)) }
     ensures none { IfNone result (is_name (spec.trimmed field.now) ≡ false) }
 {
     let bytes = trimmed(field);

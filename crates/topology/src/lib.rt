@@ -14,3 +14,6 @@ pub use faults::{MonFault, TopoFault};
 pub use monitors::read_monitors;
 pub use naming::nth_name;
 pub use topology::{Topology, read_topology};
+
+#[cfg(test)]
+mod tests;

@@ -44,7 +44,8 @@ impl Links {
 
     /// Adds the link between two nodes, where it is new.
     pub(crate) fn add(&mut self, a: u32, b: u32) -> Result<(), NoMemory>
-        ensures ok { OnOk result (self.new ≡ insert_key same_link self.old (in_order (link_between (a, b)))) }
+        ensures ok { OnOk result (self.new
+            ≡ insert_key same_link self.old (in_order (link_between (a, b)))) }
         ensures err { OnErr result (self.new ≡ self.old) }
     {
         let ends = if b < a { (b, a) } else { (a, b) };

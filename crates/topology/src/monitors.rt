@@ -8,10 +8,13 @@ use rows::Rows;
 use std::alloc::Global;
 use tomo_base::NodeSet;
 
-/// Reads the monitors that rows name: the nodes of a topology whose names stand in the first fields of the rows, without the
-/// spaces and tabs at their ends. A name given twice counts once. Refused is the first row whose name no node has.
+/// Reads the monitors that rows name.
+///
+/// They are the nodes of the topology whose names stand in the first fields of the rows, without the
+/// spaces and tabs at their ends. A name given twice counts once. `Unknown` is answered at the first
+/// row whose name no node has; rows are numbered from 1.
 pub fn read_monitors(alloc: Global, t: &Topology, rows: &Rows) -> Result<NodeSet, MonFault>
-    ensures monitors { IfOk result (λ monitors. monitors ≡ monitors_of t.now.names rows.now.closed) }
+    ensures monitors { IfOk result (λ set. set ≡ monitors_of t.now.names rows.now.closed) }
     ensures known { OnOk result (AllKnown t.now.names rows.now.closed (length rows.now.closed)) }
     ensures fault { IfErr result (IsMonFault t.now.names rows.now.closed) }
 {

@@ -3,10 +3,10 @@ ghost use Rattle.std.specs.Prelude.{◌≡◌, ◌<◌, ◌≤◌, ℕ, Some, le
 ghost use Rattle.std.specs.List.{list_any};
 ghost use Rattle.tomo_base.specs.Network.{AreLinks};
 ghost use Rattle.tomo_base.specs.Walks.{IsConnected};
-ghost use Rattle.topology.specs.Draft.{IsDraft, IsNoTopology};
-ghost use Rattle.topology.specs.Faults.{AllFine, IsTopoFault, examined};
+ghost use Rattle.topology.specs.Draft.{IsDraft};
+ghost use Rattle.topology.specs.Faults.{AllFine, IsTopoFault, IsUnfit, examined};
 ghost use Rattle.topology.specs.Names.{trimmed};
-ghost use Rattle.topology.specs.Topology.{IsTopology, topo_of};
+ghost use Rattle.topology.specs.Topology.{IsTopology, topo_of, topo_with};
 
 use crate::draft::{Draft, draft_of};
 use crate::faults::TopoFault;
@@ -17,7 +17,8 @@ use std::alloc::Global;
 use std::marker::Model;
 use tomo_base::{Graph, GraphFault, Link, first_apart};
 
-/// A connected graph of 3 to 1,000 nodes and at most 4,000 links, whose nodes have different names of 1 to 64 bytes each.
+/// A connected graph of 3 to 1,000 nodes and at most 4,000 links, whose nodes have different names of
+/// 1 to 64 bytes of UTF-8 each.
 #[derive(Drop)]
 pub struct Topology {
     names: Names,
@@ -46,7 +47,8 @@ impl Topology {
     /// The name of a node. It takes no memory.
     pub fn name(&self, v: u32) -> &str
         requires { v < self.now.graph.nodes }
-        ensures { slice_get self.now.names v ≡ Some result.now }
+        ensures name { slice_get self.now.names v ≡ Some result.now }
+        ensures topology { IsTopology self.now }
     {
         self.names.at(v)
     }
@@ -80,7 +82,7 @@ fn connected_graph(alloc: Global, nodes: u32, links: &[Link]) -> Result<Graph, T
     requires few_links { length links.now ≤ 4000 }
     ensures graph { IfOk result (λ g. g ≡ record { nodes = nodes; links = links.now }) }
     ensures connected { IfOk result IsConnected }
-    ensures fault { IfErr result (IsNoTopology (record { nodes = nodes; links = links.now })) }
+    ensures fault { IfErr result (IsUnfit (record { nodes = nodes; links = links.now })) }
 {
     let graph = match Graph::new(alloc, nodes, links) {
         Ok(graph) => graph,
@@ -98,9 +100,9 @@ fn connected_graph(alloc: Global, nodes: u32, links: &[Link]) -> Result<Graph, T
 // The topology of a draft of all rows, or that its nodes are few or apart.
 fn topology_of(alloc: Global, draft: Draft) -> Result<Topology, TopoFault>
     requires { IsDraft draft.names draft.links }
-    ensures topology { IfOk result (λ t. t ≡ record { names = draft.names; graph = record { nodes = length draft.names; links = draft.links } }) }
+    ensures topology { IfOk result (λ t. t ≡ topo_with draft.names draft.links) }
     ensures kept { IfOk result IsTopology }
-    ensures fault { IfErr result (IsNoTopology (record { nodes = length draft.names; links = draft.links })) }
+    ensures fault { IfErr result (IsUnfit (topo_with draft.names draft.links).graph) }
 {
     let Draft { names, links } = draft;
     let nodes = names.len();
@@ -114,10 +116,14 @@ fn topology_of(alloc: Global, draft: Draft) -> Result<Topology, TopoFault>
 
 /// Reads the topology that rows name.
 ///
-/// Each row names one link by its first two fields; further fields are not read. A name is a field without the spaces and tabs
-/// at its ends. Nodes and links are numbered by first appearance, and a known link, with its ends in either order, adds nothing.
-/// With `header` the first row is not examined. The fault of the first row that has one is answered, and after that of no row
-/// whether there are fewer than three nodes or a node is apart.
+/// Each row names one link by its first two fields; further fields are not read. A name is a field
+/// without the spaces and tabs at its ends. Nodes and links are numbered by first appearance, and a
+/// known link, with its ends in either order, adds nothing. With `header` the first row is not
+/// examined.
+///
+/// The fault of the first row that has one is answered; in one row `Width` comes before `Name`, `Loop`,
+/// `Nodes` and `Links`. Where no row has one, `Few` and then `Apart` are tried. The rows are read once,
+/// in time near to their number.
 pub fn read_topology(alloc: Global, rows: &Rows, header: bool) -> Result<Topology, TopoFault>
     ensures topology { IfOk result (λ t. t ≡ topo_of (examined header rows.now.closed)) }
     ensures fine { OnOk result (AllFine header rows.now.closed (length rows.now.closed)) }

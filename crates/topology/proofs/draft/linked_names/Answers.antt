@@ -1,5 +1,4 @@
-use Rattle.std.proofs.Common.{◌≡◌, ◌<◌, ◌≤◌, [], true, false, length, slice_index_or, arith, sym, ap, ◌∙◌, bytes_eq}
-use Rattle.topology.specs.Names.{name_at, is_name, trimmed}
+use Rattle.std.proofs.Common.{arith, sym, ◌∙◌}
 use Rattle.topology.proofs.RowFaults.{fault_width, fault_first, fault_second, fault_loop}
 use Rattle.topology.proofs.draft.linked_names.Goals as goal
 

@@ -1,4 +1,3 @@
-use Rattle.std.proofs.Common.{rules}
 use Rattle.topology.specs.Names.{trimmed}
 use Rattle.topology.proofs.fields.trimmed.Goals as goal
 

@@ -1,6 +1,5 @@
-use Rattle.std.proofs.Common.{◌≡◌, ◌<◌, ◌≤◌, [], length, slice_get, slice_index_or, arith, Some}
+use Rattle.std.proofs.Common.{◌<◌, length, arith}
 use Rattle.std.proofs.lemmas.Option.{slice_get_within}
-use Rattle.topology.specs.Names.{name_at}
 use Rattle.topology.proofs.Named.{read_none, read_more, first_unknown, monitors_are}
 use Rattle.topology.proofs.monitors.read_monitors.Goals as goal
 

@@ -1,5 +1,4 @@
-use Rattle.std.proofs.Common.{◌≡◌, ◌≤◌, length, arith}
-use Rattle.tomo_base.specs.Network.{Network}
+use Rattle.std.proofs.Common.{arith}
 use Rattle.topology.proofs.Ending.{draft_is_topology}
 use Rattle.topology.proofs.topology.topology_of.Goals as goal
 

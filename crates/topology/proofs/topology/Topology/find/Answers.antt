@@ -1,6 +1,4 @@
-use Rattle.std.proofs.Common.{◌∙◌, ◌≡◌, ap, position, bytes_eq}
 use Rattle.topology.proofs.Finding.{name_found, name_is_found}
-use Rattle.topology.specs.Topology.{Topo}
 use Rattle.topology.proofs.topology.Topology.find.Goals as goal
 
 pub returns-clause-found : goal.returns-clause-found

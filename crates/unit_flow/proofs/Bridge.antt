@@ -7,7 +7,8 @@ use Rattle.tomo_base.specs.Network.{Network, linked, any_joins, AreLinks, IsGrap
 use Rattle.tomo_base.specs.Sets.{one_if, count, touches, outside, IsInside, has as holds}
 use Rattle.tomo_base.specs.Walks.{end_of, NoneTwice}
 use Rattle.tomo_base.proofs.Links.{joins_gives, linked_comm, linked_below}
-use Rattle.ident_laws.proofs.Outside.{touches-from, touches_gives, touches_wider, nodes_of}
+use Rattle.tomo_base.proofs.Touching.{touches-from, touches_gives}
+use Rattle.ident_laws.proofs.Outside.{touches_wider, nodes_of}
 use Rattle.unit_flow.specs.Flows.{last_of}
 use Rattle.unit_flow.proofs.Lists.{has, eqb_flip, apart}
 use Rattle.unit_flow.proofs.Load.{absent}

@@ -2,15 +2,15 @@ use Rattle.std.proofs.Common.{◌≡◌, length, true, sym, subst, ◌∙◌, ar
 use Rattle.tomo_base.specs.declared.graph.Hop.{Hop}
 use Rattle.tomo_base.specs.Network.{linked}
 use Rattle.unit_flow.specs.Steps.{entry_of, node_at}
-use Rattle.unit_flow.specs.Search.{task_of, Looked, IsDone}
-use Rattle.unit_flow.proofs.Widening.{jb}
+use Rattle.unit_flow.specs.Search.{asked, Looked, IsDone}
+use Rattle.unit_flow.proofs.Tasks.{jb}
 use Rattle.unit_flow.proofs.Reaches.{Grows-trans}
 use Rattle.unit_flow.proofs.Scans.{Scanned, read_node, scan_step, scan_end, hop_near}
 use Rattle.unit_flow.proofs.search.scan.Goals as goal
 
 pub look-requires-in-loop-hop-clause-inside : goal.look-requires-in-loop-hop-clause-inside
 look-requires-in-loop-hop-clause-inside c =
-    let t = task_of c.args.g.now c.args.ask.now in
+    let t = asked c.args.g.now c.args.ask.now in
     let u = c.index.result.now.node in
     let e : Hop = record { node = 0; link = 0 } in
     let h : Hop = get_or c.hops-hop-items.result.now c.loop-hop.hop-index e in
@@ -18,7 +18,7 @@ look-requires-in-loop-hop-clause-inside c =
 
 pub look-requires-in-loop-hop-clause-near : goal.look-requires-in-loop-hop-clause-near
 look-requires-in-loop-hop-clause-near c =
-    let t = task_of c.args.g.now c.args.ask.now in
+    let t = asked c.args.g.now c.args.ask.now in
     let u = c.index.result.now.node in
     let e : Hop = record { node = 0; link = 0 } in
     let h : Hop = get_or c.hops-hop-items.result.now c.loop-hop.hop-index e in
@@ -31,7 +31,7 @@ returns-then-branch-2-clause-grows c = Grows-trans c.args.seen.now.items c.loop-
 
 pub returns-then-branch-2-clause-near : goal.returns-then-branch-2-clause-near
 returns-then-branch-2-clause-near c =
-    let t = task_of c.args.g.now c.args.ask.now in
+    let t = asked c.args.g.now c.args.ask.now in
     let u = c.index.result.now.node in
     let e : Hop = record { node = 0; link = 0 } in
     let h : Hop = get_or c.hops-hop-items.result.now c.loop-hop.hop-index e in
@@ -42,7 +42,7 @@ returns-then-branch-2-clause-near c =
 
 pub loop-hop-preserved : goal.loop-hop-preserved
 loop-hop-preserved c =
-    let t = task_of c.args.g.now c.args.ask.now in
+    let t = asked c.args.g.now c.args.ask.now in
     let f = entry_of c.args.before.now in
     let e : Hop = record { node = 0; link = 0 } in
     let h : Hop = get_or c.hops-hop-items.result.now c.loop-hop.hop-index e in
@@ -52,7 +52,7 @@ loop-hop-preserved c =
 
 pub returns-clause-none : goal.returns-clause-none
 returns-clause-none c =
-    let t = task_of c.args.g.now c.args.ask.now in
+    let t = asked c.args.g.now c.args.ask.now in
     let f = entry_of c.args.before.now in
     let u = c.index.result.now.node in
     let hops = c.hops-hop-items.result.now in

@@ -1,0 +1,124 @@
+-- What the fields of a flow keep when a path is taken into it, when it has one path more, and when it is stuck.
+use Rattle.std.proofs.Common.{ℕ, suc, ◌+◌, ◌<◌, ◌≤◌, ◌≡◌, Bool, true, false, eqb, List, [], ◌∷◌, ◌++◌, map, length, get_or, set, take, Vec, refl, sym, ap, ap₂, subst, ◌∙◌, arith, inl, inr, None, length-append, length-take-le, length-set}
+use Rattle.std.specs.Global.{Global}
+use Rattle.std.specs.List.{IsDistinct, AllByRecursion}
+use Rattle.std.proofs.lemmas.Bool.{cases_lt, both_ways, false≢true, eqb-true, or_cases}
+use Rattle.std.proofs.lemmas.List.{length-map}
+use Rattle.std.proofs.lemmas.List.Elements.{recursion_from_All}
+use Rattle.std.proofs.lemmas.Map.Steps.{length-le_from_distinct_below}
+use Rattle.std.proofs.Math.Seq.{take-length}
+use Rattle.tomo_base.specs.Network.{Network, linked}
+use Rattle.tomo_base.specs.Search.{mark_of}
+use Rattle.tomo_base.specs.Sets.{has as holds}
+use Rattle.tomo_base.proofs.Ascending.{All-from_has}
+use Rattle.unit_flow.specs.declared.ask.Ask.{Ask}
+use Rattle.unit_flow.specs.Flows.{Task, IsTask, IsRoute, IsFlow, IsWider, IsLeastCut, later_of, all_later}
+use Rattle.unit_flow.specs.Widening.{IsStuck}
+use Rattle.unit_flow.specs.Kept.{HasRoom, IsKept}
+use Rattle.unit_flow.specs.Search.{asked, IsAsked}
+use Rattle.unit_flow.proofs.Lists.{has}
+use Rattle.unit_flow.proofs.Load.{all_on}
+use Rattle.unit_flow.proofs.Back.{on_low}
+use Rattle.unit_flow.proofs.Bridge.{distinct_of}
+use Rattle.unit_flow.proofs.Tasks.{jb, cut_bound}
+use Rattle.unit_flow.proofs.Results.{array_of, array_arcs}
+use Rattle.unit_flow.proofs.Marking.{unmarked_past}
+use Rattle.unit_flow.proofs.Writes.{fun_same}
+
+-- what is asked for is the task with the sets whose marks it has
+pub same_task : (g : Network) (a : Ask) (targets banned : List ℕ) → ((v : ℕ) → mark_of a.targets.items v ≡ holds targets v) → ((v : ℕ) → mark_of a.banned.items v ≡ holds banned v)
+    → asked g a ≡ record { graph = g; source = a.source; targets = holds targets; banned = holds banned }
+same_task g a targets banned h k =
+    let task : (ℕ → Bool) → (ℕ → Bool) → Task = λ x y. record { graph = g; source = a.source; targets = x; banned = y } in
+    ap₂ task (fun_same (mark_of a.targets.items) (holds targets) h) (fun_same (mark_of a.banned.items) (holds banned) k)
+
+module _ (t : Task) (ok : IsTask t) where
+  -- a flow has no more nodes after the source than the graph has others
+  pub flow_small : (ps : List (List ℕ)) → IsFlow t ps → length (all_later ps) + 1 ≤ t.graph.nodes
+  flow_small ps flow = omega (arith, length-le_from_distinct_below (t.source ∷ all_later ps) t.graph.nodes (distinct_of (t.source ∷ all_later ps) flow.apart) low)
+    where
+      low : (v : ℕ) → has (t.source ∷ all_later ps) v ≡ true → v < t.graph.nodes
+      low v h = elim (or_cases (eqb v t.source) (has (all_later ps) v) h) [
+        | inl e ↦ subst (λ z. z < t.graph.nodes) (sym (eqb-true v t.source e)) ok.below
+        | inr e ↦ on_low (linked t.graph) t.banned t.targets t.source t.graph.nodes (λ x y h. (jb t ok x y h).1) ok.no_target (array_of t ok ps) v (array_arcs t ok ps flow) (all_on t.source (λ _. None) ps v e)
+      ]
+
+  -- each path has a node after the source
+  later_some : (p : List ℕ) → IsRoute t p → 1 ≤ length (later_of p)
+  later_some [] r = absurd r
+  later_some (a ∷ []) r = absurd (false≢true (sym ok.no_target ∙ ap t.targets (sym r.0) ∙ r.1))
+  later_some (a ∷ b ∷ p) r = omega arith
+
+  -- so there are no more paths than such nodes
+  paths_few : (ps : List (List ℕ)) → AllByRecursion (IsRoute t) ps → length ps ≤ length (all_later ps)
+  paths_few [] r = omega arith
+  paths_few (p ∷ ps) r = omega (arith, paths_few ps r.1, later_some p r.0, length-append (later_of p) (all_later ps))
+
+  -- and no more than nodes
+  pub flow_few : (ps : List (List ℕ)) → IsFlow t ps → length ps ≤ t.graph.nodes
+  flow_few ps flow = omega (arith, paths_few ps (recursion_from_All (IsRoute t) ps flow.routes), flow_small ps flow)
+
+  -- a path has no more nodes than the graph
+  pub path_short : (p : List ℕ) → IsFlow t (p ∷ []) → length p ≤ t.graph.nodes
+  path_short [] flow = omega arith
+  path_short (a ∷ p) flow = omega (arith, flow_small ((a ∷ p) ∷ []) flow, length-append p [])
+
+  -- marks of the least set that stops a flow make a set for which the flow is stuck
+  pub stuck_by : (ps : List (List ℕ)) (seen : List Bool) (q : List ℕ) → length seen ≡ t.graph.nodes → IsLeastCut t (length ps) (mark_of seen) → ((v : ℕ) → holds q v ≡ mark_of seen v) → IsStuck t ps q
+  stuck_by ps seen q size cut same = record {
+    most = λ other flow. cut_bound t ok (mark_of seen) (length ps) other cut.cut flow;
+    cut = subst (IsLeastCut t (length ps)) (sym (fun_same (holds q) (mark_of seen) same)) cut;
+    below = All-from_has (λ v. v < t.graph.nodes) q (λ v h. elim (cases_lt v t.graph.nodes) [
+      | inl l ↦ l
+      | inr ge ↦ absurd (both_ways (mark_of seen v) (unmarked_past seen v (omega (arith, ge, size))) (sym (same v) ∙ h))
+    ]);
+  }
+
+-- as many lists are taken as are counted
+length-first : (count : ℕ) (paths : List (Vec ℕ Global)) → count ≤ length paths → length (map (λ p. p.items) (take count paths)) ≡ count
+length-first count paths l = length-map (take count paths) (λ (p : Vec ℕ Global). p.items) ∙ length-take-le count paths l
+
+-- the first list, where another is put in its place
+first_put : (paths : List (Vec ℕ Global)) (p : Vec ℕ Global) → 1 ≤ length paths → take 1 (set paths 0 p) ≡ p ∷ []
+first_put [] p l = absurd (omega arith)
+first_put (q ∷ paths) p l = refl
+
+-- a flow without paths
+pub kept_new : (g : Network) (a : Ask) (targets banned : List ℕ) (room : Vec ℕ Global) → IsAsked g a → ((v : ℕ) → mark_of a.targets.items v ≡ holds targets v) → ((v : ℕ) → mark_of a.banned.items v ≡ holds banned v)
+    → length room.items ≡ g.nodes → IsKept g a targets banned 0 (room ∷ [])
+unfolding holds
+kept_new g a targets banned room is h k long = record {
+  is_asked = is;
+  marks_targets = h;
+  marks_banned = k;
+  within = omega arith;
+  flow = record { routes = λ k d l. absurd (omega (arith, l)); apart = (refl, tt) };
+  room = λ _. record { some = omega arith; long = λ d. long };
+}
+
+module _ (g : Network) (a : Ask) (targets banned : List ℕ) (count : ℕ) (paths : List (Vec ℕ Global)) (k : IsKept g a targets banned count paths) where
+  -- a flow without paths counts none
+  pub none_counted : map (λ p. p.items) (take count paths) ≡ [] → count ≡ 0
+  none_counted e = sym (length-first count paths k.within) ∙ ap (λ z. length z) e
+
+  -- the first list takes a path
+  pub kept_path : (p : Vec ℕ Global) → count ≡ 0 → IsFlow (asked g a) (p.items ∷ []) → IsKept g a targets banned 1 (set paths 0 p)
+  kept_path p none flow = record {
+    is_asked = k.is_asked;
+    marks_targets = k.marks_targets;
+    marks_banned = k.marks_banned;
+    within = omega (arith, length-set paths 0 p, (k.room none).some);
+    flow = subst (λ z. IsFlow (asked g a) (map (λ q. q.items) z)) (sym (first_put paths p (k.room none).some)) flow;
+    room = λ e. absurd (omega (arith, e));
+  }
+
+  -- the lists are those of a flow of one path more
+  pub kept_wider : (new : List (Vec ℕ Global)) → IsWider (asked g a) (map (λ p. p.items) (take count paths)) (map (λ p. p.items) new) → IsKept g a targets banned (length new) new
+  kept_wider new w = record {
+    is_asked = k.is_asked;
+    marks_targets = k.marks_targets;
+    marks_banned = k.marks_banned;
+    within = omega arith;
+    flow = subst (λ z. IsFlow (asked g a) (map (λ p. p.items) z)) (sym (take-length new)) w.flow;
+    room = λ e. absurd (omega (arith, e, w.one_more, length-map new (λ (p : Vec ℕ Global). p.items)));
+  }

@@ -1,0 +1,34 @@
+// Sets of nodes as marks, and back.
+ghost use Rattle.std.specs.Prelude.{◌≡◌, ◌<◌, ◌≤◌, ℕ, length, All, IfOk};
+ghost use Rattle.tomo_base.specs.Search.{mark_of};
+ghost use Rattle.tomo_base.specs.Sets.{has};
+
+use std::alloc::{AllocError, Global};
+use tomo_base::{NoMemory, NodeSet};
+
+/// One mark for each node: whether it is in the set.
+pub fn marks(alloc: Global, count: u32, set: &NodeSet) -> Result<Vec<bool>, AllocError>
+    requires { All (λ v. v < count) set.now }
+    ensures size { IfOk result (λ xs. length xs.items ≡ count) }
+    ensures marks { IfOk result (λ xs. (v : ℕ) → mark_of xs.items v ≡ has set.now v) }
+{
+    let mut marks: Vec<bool> = vec![in alloc; false; count as usize]?;
+    for &v in set.as_slice() {
+        marks[v as usize] = true;
+    }
+    Ok(marks)
+}
+
+/// The set of the nodes that are marked.
+pub fn marked(alloc: Global, marks: &[bool]) -> Result<NodeSet, NoMemory>
+    requires { length marks.now ≤ 10000 }
+    ensures { IfOk result (λ set. (v : ℕ) → has set v ≡ mark_of marks.now v) }
+{
+    let mut set = NodeSet::new(alloc);
+    for (v, &mark) in marks.iter().enumerate() {
+        if mark {
+            set.insert(v as u32)?;
+        }
+    }
+    Ok(set)
+}

@@ -1,10 +1,10 @@
 -- Where nothing is banned, the sets that stop a flow are those that cut its source off from the targets.
-use Rattle.std.proofs.Common.{ℕ, ◌+◌, ◌<◌, ◌≤◌, ◌≡◌, Bool, true, false, not, ◌&&◌, List, [], length, All, refl, sym, ap, subst, ◌∙◌, arith}
+use Rattle.std.proofs.Common.{ℕ, ◌≤◌, ◌≡◌, Bool, false, not, ◌&&◌, List, [], length, refl, sym, ◌∙◌, arith}
 use Rattle.tomo_base.specs.Network.{Network}
-use Rattle.tomo_base.specs.Sets.{has, outside, size, IsInside}
+use Rattle.tomo_base.specs.Sets.{has, outside, size}
 use Rattle.tomo_base.specs.BadParts.{IsCutOff}
 use Rattle.tomo_base.proofs.Counts.{count-same}
-use Rattle.unit_flow.specs.Flows.{Task, IsTask, Routing, task_of, no_paths, IsFlow, ways_out, IsCut, IsLeastCut}
+use Rattle.unit_flow.specs.Flows.{Task, IsTask, task_of, no_paths, IsFlow, ways_out, IsCut}
 use Rattle.unit_flow.specs.Widening.{IsStuck}
 use Rattle.unit_flow.specs.Fan.{IsLeastCutOff}
 use Rattle.unit_flow.proofs.Tasks.{cut_bound}

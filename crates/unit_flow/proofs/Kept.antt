@@ -1,7 +1,7 @@
 -- What the fields of a flow keep when a path is taken into it, when it has one path more, and when it is stuck.
-use Rattle.std.proofs.Common.{ℕ, suc, ◌+◌, ◌<◌, ◌≤◌, ◌≡◌, Bool, true, false, eqb, List, [], ◌∷◌, ◌++◌, map, length, get_or, set, take, Vec, refl, sym, ap, ap₂, subst, ◌∙◌, arith, inl, inr, None, length-append, length-take-le, length-set}
+use Rattle.std.proofs.Common.{ℕ, ◌+◌, ◌<◌, ◌≤◌, ◌≡◌, Bool, true, eqb, List, [], ◌∷◌, map, length, set, take, Vec, refl, sym, ap, ap₂, subst, ◌∙◌, arith, inl, inr, None, length-append, length-take-le, length-set}
 use Rattle.std.specs.Global.{Global}
-use Rattle.std.specs.List.{IsDistinct, AllByRecursion}
+use Rattle.std.specs.List.{AllByRecursion}
 use Rattle.std.proofs.lemmas.Bool.{cases_lt, both_ways, false≢true, eqb-true, or_cases}
 use Rattle.std.proofs.lemmas.List.{length-map}
 use Rattle.std.proofs.lemmas.List.Elements.{recursion_from_All}
@@ -14,7 +14,7 @@ use Rattle.tomo_base.proofs.Ascending.{All-from_has}
 use Rattle.unit_flow.specs.declared.ask.Ask.{Ask}
 use Rattle.unit_flow.specs.Flows.{Task, IsTask, IsRoute, IsFlow, IsWider, IsLeastCut, later_of, all_later}
 use Rattle.unit_flow.specs.Widening.{IsStuck}
-use Rattle.unit_flow.specs.Kept.{HasRoom, IsKept}
+use Rattle.unit_flow.specs.Kept.{IsKept}
 use Rattle.unit_flow.specs.Search.{asked, IsAsked}
 use Rattle.unit_flow.proofs.Lists.{has}
 use Rattle.unit_flow.proofs.Load.{all_on}

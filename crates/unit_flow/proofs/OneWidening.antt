@@ -10,7 +10,7 @@ use Rattle.tomo_base.specs.Walks.{NoneTwice}
 use Rattle.unit_flow.specs.declared.arrays.Reached.{Reached}
 use Rattle.unit_flow.specs.Flows.{Task, IsTask, LeadsFrom, IsRoute, IsFlow, IsWider, IsLeastCut, last_of}
 use Rattle.unit_flow.specs.Arrays.{put, load_all}
-use Rattle.unit_flow.specs.Steps.{entry_of, node_at, passed, ArcsFor, IsQueue, Followed, Stands, ReadsAll}
+use Rattle.unit_flow.specs.Steps.{entry_of, node_at, ArcsFor, IsQueue, Followed, Stands, ReadsAll}
 use Rattle.unit_flow.specs.Search.{IsNear, IsDone, IsHit, Reaching}
 use Rattle.unit_flow.proofs.Back.{on_low}
 use Rattle.unit_flow.proofs.Tasks.{jb}

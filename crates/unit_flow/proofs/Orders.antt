@@ -1,9 +1,9 @@
 -- A flow is a flow in any order of its paths.
-use Rattle.std.proofs.Common.{ℕ, ◌+◌, ◌≤◌, ◌≡◌, true, false, ◌==◌, List, [], ◌∷◌, ◌++◌, map, reverse, sum_by, All, refl, sym, ap, ◌∙◌, arith, inl, inr}
+use Rattle.std.proofs.Common.{ℕ, ◌+◌, ◌≤◌, ◌≡◌, true, false, ◌==◌, List, [], ◌∷◌, sum_by, refl, sym, ap, ◌∙◌, arith, inl, inr}
 use Rattle.std.specs.List.Sorted.{IsPermutation}
 use Rattle.std.proofs.lemmas.Bool.{cases_Bool, or_parts, eqb-true, eq-eqb, both_ways, false_from_ne_true}
 use Rattle.std.proofs.lemmas.List.Sums.{sum_by-cons, sum_by-append}
-use Rattle.std.proofs.lemmas.List.Sorted.{All-permutation, sum_by-IsPermutation, IsPermutation-reverse}
+use Rattle.std.proofs.lemmas.List.Sorted.{All-permutation, sum_by-IsPermutation}
 use Rattle.tomo_base.specs.Sets.{one_if, has}
 use Rattle.tomo_base.specs.Walks.{NoneTwice}
 use Rattle.unit_flow.specs.Flows.{Task, IsRoute, IsFlow, later_of, all_later}

@@ -6,7 +6,7 @@ use Rattle.std.proofs.lemmas.List.Elements.{recursion_from_All}
 use Rattle.tomo_base.specs.Network.{linked}
 use Rattle.tomo_base.specs.Walks.{NoneTwice}
 use Rattle.simple_path.specs.Pools.{nodes_in}
-use Rattle.unit_flow.specs.Flows.{Task, IsTask, IsRoute, IsFlow, later_of, all_later, second_of}
+use Rattle.unit_flow.specs.Flows.{Task, IsTask, IsRoute, IsFlow, all_later, second_of}
 use Rattle.unit_flow.proofs.Start.{picks}
 use Rattle.unit_flow.proofs.Law.{member_leads}
 use Rattle.unit_flow.proofs.Bridge.{none_twice_of}

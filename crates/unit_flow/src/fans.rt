@@ -17,12 +17,7 @@ pub enum Fanned {
 }
 
 /// Looks for three paths from a node to the targets; none is banned. At most three searches, each linear in nodes and links.
-pub fn fan(
-    alloc: Global,
-    g: &Graph,
-    source: u32,
-    targets: &NodeSet,
-) -> Result<Fanned, NoMemory>
+pub fn fan(alloc: Global, g: &Graph, source: u32, targets: &NodeSet) -> Result<Fanned, NoMemory>
     requires source { source < g.now.nodes }
     requires targets { All (λ v. v < g.now.nodes) targets.now }
     requires no_target { has targets.now source ≡ false }

@@ -10,11 +10,7 @@ use std::alloc::{AllocError, Global};
 use tomo_base::NoMemory;
 
 // For each node, the place of a path whose second node it is.
-fn places(
-    alloc: Global,
-    count: u32,
-    paths: &[Vec<u32>],
-) -> Result<Vec<Option<u32>>, AllocError>
+fn places(alloc: Global, count: u32, paths: &[Vec<u32>]) -> Result<Vec<Option<u32>>, AllocError>
     requires long { All (λ p. 2 ≤ length p.items) paths.now }
     requires inside { All (λ p. second_of p.items < count) paths.now }
     requires few { length paths.now < 2 ^ 31 }

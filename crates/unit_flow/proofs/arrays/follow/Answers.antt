@@ -1,6 +1,6 @@
-use Rattle.std.proofs.Common.{◌≡◌, ◌<◌, length, Some, sym, ap, ◌∙◌, arith}
+use Rattle.std.proofs.Common.{◌<◌, length, Some, ap, ◌∙◌, arith}
 use Rattle.unit_flow.specs.Arrays.{put}
-use Rattle.unit_flow.specs.Steps.{entry_of, node_at, Followed}
+use Rattle.unit_flow.specs.Steps.{entry_of}
 use Rattle.unit_flow.proofs.Writes.{array_put}
 use Rattle.unit_flow.proofs.arrays.follow.Goals as goal
 

@@ -1,4 +1,4 @@
-use Rattle.std.proofs.Common.{◌≡◌, ◌<◌, ◌≤◌, ℕ, List, [], length, false, pos, sym, ap, subst, ◌∙◌, arith}
+use Rattle.std.proofs.Common.{◌≡◌, ◌<◌, [], length, false, sym, ap, subst, ◌∙◌, arith}
 use Rattle.tomo_base.specs.Sets.{has}
 use Rattle.unit_flow.specs.Flows.{Routing, task_of, no_paths, IsTask, IsFlow}
 use Rattle.unit_flow.specs.Widening.{Widens, IsStuck}

@@ -1,5 +1,5 @@
-use Rattle.std.proofs.Common.{◌≡◌, ◌<◌, ◌≤◌, length, map, [], get_or, Some, None, replicate, sym, ap, subst, ◌∙◌, arith, length-set}
-use Rattle.std.proofs.lemmas.List.{get_or-map, get_or-replicate}
+use Rattle.std.proofs.Common.{◌≡◌, ◌<◌, ◌≤◌, length, map, [], get_or, Some, sym, ap, subst, ◌∙◌, arith, length-set}
+use Rattle.std.proofs.lemmas.List.{get_or-map}
 use Rattle.unit_flow.specs.Flows.{second_of}
 use Rattle.unit_flow.specs.Order.{ArePlaces}
 use Rattle.unit_flow.proofs.Sorting.{second_at, places_more}

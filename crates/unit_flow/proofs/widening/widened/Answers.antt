@@ -1,4 +1,4 @@
-use Rattle.std.proofs.Common.{◌≡◌, ◌++◌, replicate, false, ◌<◌, ◌≤◌, ℕ, None, List, [], ◌∷◌, length, All, map, IfSome, IfNone, arith, refl, sym, ap, ◌∙◌, subst}
+use Rattle.std.proofs.Common.{◌≡◌, ◌++◌, replicate, false, ◌<◌, ℕ, [], ◌∷◌, length, All, map, IfSome, IfNone, arith, refl, sym, ap, ◌∙◌, subst}
 use Rattle.unit_flow.specs.declared.arrays.Reached.{Reached}
 use Rattle.tomo_base.specs.Walks.{NoneTwice}
 use Rattle.tomo_base.proofs.Entering.{lent_back}

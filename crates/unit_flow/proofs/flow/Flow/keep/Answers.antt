@@ -1,6 +1,6 @@
-use Rattle.std.proofs.Common.{◌≡◌, ◌≤◌, [], ◌∷◌, length, map, take, slice_index_or, sym, ap, subst, ◌∙◌, arith}
+use Rattle.std.proofs.Common.{◌≡◌, [], ◌∷◌, length, sym, ap, subst, ◌∙◌, arith}
 use Rattle.tomo_base.specs.Network.{Network}
-use Rattle.unit_flow.specs.Flows.{Task, Routing, task_of, IsFlow}
+use Rattle.unit_flow.specs.Flows.{Routing, task_of, IsFlow}
 use Rattle.unit_flow.specs.Search.{asked}
 use Rattle.unit_flow.proofs.Kept.{same_task, path_short, none_counted, kept_path}
 use Rattle.unit_flow.proofs.flow.Flow.keep.Goals as goal

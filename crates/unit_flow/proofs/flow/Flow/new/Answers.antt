@@ -1,9 +1,8 @@
-use Rattle.std.proofs.Common.{◌≡◌, ℕ, [], ◌∷◌, ◌++◌, List, length, replicate, false, refl, sym, ap, ap₂, subst, ◌∙◌, arith}
+use Rattle.std.proofs.Common.{◌≡◌, ℕ, [], ◌∷◌, ◌++◌, List, length, ap, ap₂, ◌∙◌, arith}
 use Rattle.std.proofs.lemmas.List.{length-replicate}
 use Rattle.tomo_base.specs.declared.graph.Link.{Link}
 use Rattle.tomo_base.specs.Network.{Network}
 use Rattle.unit_flow.specs.declared.ask.Ask.{Ask}
-use Rattle.unit_flow.specs.Kept.{IsKept}
 use Rattle.unit_flow.specs.Search.{IsAsked}
 use Rattle.unit_flow.proofs.Kept.{kept_new}
 use Rattle.unit_flow.proofs.flow.Flow.new.Goals as goal

@@ -1,7 +1,7 @@
-use Rattle.std.proofs.Common.{◌≡◌, ◌<◌, ◌≤◌, ◌+◌, ◌^◌, ℕ, List, length, map, take, sym, ap, subst, ◌∙◌, arith}
+use Rattle.std.proofs.Common.{◌≡◌, ℕ, List, map, take, ap, subst, ◌∙◌, arith}
 use Rattle.std.proofs.lemmas.Result.{IfOk-weaker}
 use Rattle.std.proofs.lemmas.List.{length-map}
-use Rattle.unit_flow.specs.Flows.{Routing, task_of, IsFlow}
+use Rattle.unit_flow.specs.Flows.{task_of, IsFlow}
 use Rattle.unit_flow.specs.Order.{AreInOrder}
 use Rattle.unit_flow.specs.Search.{asked}
 use Rattle.unit_flow.proofs.Kept.{same_task, flow_few}

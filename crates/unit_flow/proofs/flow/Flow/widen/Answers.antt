@@ -3,7 +3,7 @@ use Rattle.std.proofs.Math.Seq.{take-length}
 use Rattle.std.proofs.lemmas.List.{length-map}
 use Rattle.tomo_base.specs.Search.{mark_of}
 use Rattle.unit_flow.specs.declared.widening.Outcome.TheVariants.{Reached}
-use Rattle.unit_flow.specs.Flows.{Routing, task_of, IsWider, IsLeastCut}
+use Rattle.unit_flow.specs.Flows.{Routing, task_of, IsWider}
 use Rattle.unit_flow.specs.Search.{asked, IsAsked}
 use Rattle.unit_flow.specs.Widening.{Comes, IsStuck}
 use Rattle.unit_flow.proofs.Kept.{same_task, flow_few, stuck_by}
@@ -25,7 +25,7 @@ overflow_cast-self c =
     omega (arith, few, ok.few, length-map c.in-Wider.paths.items (λ p. p.items), c.in-Wider.paths.ok, c.len.ensures)
 
 pub returns-in-Wider-clause-ok : goal.returns-in-Wider-clause-ok
-returns-in-Wider-clause-ok c = 
+returns-in-Wider-clause-ok c =
     let f = c.self.inside in
     let k = c.self.invariant in
     let g = c.args.g.now in

@@ -1,19 +1,17 @@
 -- The definitions of the base crate and the words of the proofs here say the same.
-use Rattle.std.proofs.Common.{ℕ, zero, suc, ◌+◌, ◌<◌, ◌≡◌, Bool, true, false, not, ◌&&◌, ◌||◌, nat_lt, eqb, List, [], ◌∷◌, map, length, refl, sym, ap, ap₂, ◌∙◌, arith, inl, inr, ◌⊎◌, zero-add}
+use Rattle.std.proofs.Common.{ℕ, zero, suc, ◌+◌, ◌<◌, ◌≡◌, Bool, true, false, not, ◌&&◌, ◌||◌, nat_lt, eqb, List, [], ◌∷◌, length, refl, sym, ap, ap₂, ◌∙◌, arith, inl, inr, ◌⊎◌, zero-add}
 use Rattle.std.proofs.lemmas.Bool.{cases_Bool, false≢true, ne_eqb, or_cases, and_parts, and_from, lt-ltb}
 use Rattle.std.specs.List.{IsDistinct, list_any, filter, range_with_len}
 use Rattle.tomo_base.specs.declared.graph.Link.{Link}
 use Rattle.tomo_base.specs.Network.{Network, linked, any_joins, AreLinks, IsGraph}
-use Rattle.tomo_base.specs.Sets.{one_if, count, touches, outside, IsInside, has as holds}
-use Rattle.tomo_base.specs.Walks.{end_of, NoneTwice}
+use Rattle.tomo_base.specs.Sets.{one_if, count, touches, outside, IsInside, has}
+use Rattle.tomo_base.specs.Walks.{NoneTwice}
 use Rattle.tomo_base.proofs.Links.{joins_gives, linked_comm, linked_below}
 use Rattle.tomo_base.proofs.Touching.{touches-from, touches_gives}
 use Rattle.ident_laws.proofs.Outside.{touches_wider, nodes_of}
-use Rattle.unit_flow.specs.Flows.{last_of}
-use Rattle.unit_flow.proofs.Lists.{has, eqb_flip, apart}
+use Rattle.unit_flow.proofs.Lists.{is_in, eqb_flip, apart}
 use Rattle.unit_flow.proofs.Load.{absent}
 use Rattle.unit_flow.proofs.Cut.{beside, any_from, from_any, range_has}
-use Rattle.unit_flow.specs.Arrays.{last}
 
 -- two tests that imply each other are equal
 pub same_test : (a b : Bool) → (a ≡ true → b ≡ true) → (b ≡ true → a ≡ true) → a ≡ b
@@ -30,8 +28,8 @@ linked_differ n (l ∷ ls) a b w h = elim (or_cases _ _ h) [ inl e ↦ ends (joi
     ends (inr e) = ne_eqb a b (λ q. absurd (omega (arith, w.0, e.0, e.1, q)))
 
 -- the two tests for a member agree
-pub has_same : (xs : List ℕ) (v : ℕ) → holds xs v ≡ has xs v
-unfolding holds
+pub has_same : (xs : List ℕ) (v : ℕ) → has xs v ≡ is_in xs v
+unfolding has
 has_same [] v = refl
 has_same (x ∷ xs) v = ap₂ ◌||◌ (eqb_flip x v) (has_same xs v)
 
@@ -46,21 +44,6 @@ pub none_twice_of : (xs : List ℕ) → IsDistinct eqb xs → NoneTwice xs
 unfolding IsDistinct
 none_twice_of [] d = tt
 none_twice_of (x ∷ xs) d = (has_same xs x ∙ absent x xs d.0, none_twice_of xs d.1)
-
--- the two words for the last node agree
-pub end_same : (a : ℕ) (p : List ℕ) → end_of a p ≡ last (a ∷ p)
-end_same a [] = refl
-end_same a (b ∷ p) = end_same b p
-
--- the same of a path
-pub last_same : (p : List ℕ) → last_of p ≡ last p
-last_same [] = refl
-last_same (a ∷ p) = end_same a p
-
--- and of a list of paths
-pub lasts_same : (ps : List (List ℕ)) → map last_of ps ≡ map last ps
-lasts_same [] = refl
-lasts_same (p ∷ ps) = ap₂ ◌∷◌ (last_same p) (lasts_same ps)
 
 -- a range that is longer by one filters to one number more, or none
 range_more : (a n : ℕ) (f : ℕ → Bool) → length (filter f (range_with_len a (suc n))) ≡ length (filter f (range_with_len a n)) + one_if (f (a + n))

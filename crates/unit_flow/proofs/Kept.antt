@@ -9,14 +9,14 @@ use Rattle.std.proofs.lemmas.Map.Steps.{length-le_from_distinct_below}
 use Rattle.std.proofs.Math.Seq.{take-length}
 use Rattle.tomo_base.specs.Network.{Network, linked}
 use Rattle.tomo_base.specs.Search.{mark_of}
-use Rattle.tomo_base.specs.Sets.{has as holds}
+use Rattle.tomo_base.specs.Sets.{has}
 use Rattle.tomo_base.proofs.Ascending.{All-from_has}
 use Rattle.unit_flow.specs.declared.ask.Ask.{Ask}
 use Rattle.unit_flow.specs.Flows.{Task, IsTask, IsRoute, IsFlow, IsWider, IsLeastCut, later_of, all_later}
 use Rattle.unit_flow.specs.Widening.{IsStuck}
 use Rattle.unit_flow.specs.Kept.{IsKept}
 use Rattle.unit_flow.specs.Search.{asked, IsAsked}
-use Rattle.unit_flow.proofs.Lists.{has}
+use Rattle.unit_flow.proofs.Lists.{is_in}
 use Rattle.unit_flow.proofs.Load.{all_on}
 use Rattle.unit_flow.proofs.Back.{on_low}
 use Rattle.unit_flow.proofs.Bridge.{distinct_of}
@@ -26,19 +26,19 @@ use Rattle.unit_flow.proofs.Marking.{unmarked_past}
 use Rattle.unit_flow.proofs.Writes.{fun_same}
 
 -- what is asked for is the task with the sets whose marks it has
-pub same_task : (g : Network) (a : Ask) (targets banned : List ℕ) → ((v : ℕ) → mark_of a.targets.items v ≡ holds targets v) → ((v : ℕ) → mark_of a.banned.items v ≡ holds banned v)
-    → asked g a ≡ record { graph = g; source = a.source; targets = holds targets; banned = holds banned }
+pub same_task : (g : Network) (a : Ask) (targets banned : List ℕ) → ((v : ℕ) → mark_of a.targets.items v ≡ has targets v) → ((v : ℕ) → mark_of a.banned.items v ≡ has banned v)
+    → asked g a ≡ record { graph = g; source = a.source; targets = has targets; banned = has banned }
 same_task g a targets banned h k =
     let task : (ℕ → Bool) → (ℕ → Bool) → Task = λ x y. record { graph = g; source = a.source; targets = x; banned = y } in
-    ap₂ task (fun_same (mark_of a.targets.items) (holds targets) h) (fun_same (mark_of a.banned.items) (holds banned) k)
+    ap₂ task (fun_same (mark_of a.targets.items) (has targets) h) (fun_same (mark_of a.banned.items) (has banned) k)
 
 module _ (t : Task) (ok : IsTask t) where
   -- a flow has no more nodes after the source than the graph has others
   pub flow_small : (ps : List (List ℕ)) → IsFlow t ps → length (all_later ps) + 1 ≤ t.graph.nodes
   flow_small ps flow = omega (arith, length-le_from_distinct_below (t.source ∷ all_later ps) t.graph.nodes (distinct_of (t.source ∷ all_later ps) flow.apart) low)
     where
-      low : (v : ℕ) → has (t.source ∷ all_later ps) v ≡ true → v < t.graph.nodes
-      low v h = elim (or_cases (eqb v t.source) (has (all_later ps) v) h) [
+      low : (v : ℕ) → is_in (t.source ∷ all_later ps) v ≡ true → v < t.graph.nodes
+      low v h = elim (or_cases (eqb v t.source) (is_in (all_later ps) v) h) [
         | inl e ↦ subst (λ z. z < t.graph.nodes) (sym (eqb-true v t.source e)) ok.below
         | inr e ↦ on_low (linked t.graph) t.banned t.targets t.source t.graph.nodes (λ x y h. (jb t ok x y h).1) ok.no_target (array_of t ok ps) v (array_arcs t ok ps flow) (all_on t.source (λ _. None) ps v e)
       ]
@@ -64,10 +64,10 @@ module _ (t : Task) (ok : IsTask t) where
   path_short (a ∷ p) flow = omega (arith, flow_small ((a ∷ p) ∷ []) flow, length-append p [])
 
   -- marks of the least set that stops a flow make a set for which the flow is stuck
-  pub stuck_by : (ps : List (List ℕ)) (seen : List Bool) (q : List ℕ) → length seen ≡ t.graph.nodes → IsLeastCut t (length ps) (mark_of seen) → ((v : ℕ) → holds q v ≡ mark_of seen v) → IsStuck t ps q
+  pub stuck_by : (ps : List (List ℕ)) (seen : List Bool) (q : List ℕ) → length seen ≡ t.graph.nodes → IsLeastCut t (length ps) (mark_of seen) → ((v : ℕ) → has q v ≡ mark_of seen v) → IsStuck t ps q
   stuck_by ps seen q size cut same = record {
     most = λ other flow. cut_bound t ok (mark_of seen) (length ps) other cut.cut flow;
-    cut = subst (IsLeastCut t (length ps)) (sym (fun_same (holds q) (mark_of seen) same)) cut;
+    cut = subst (IsLeastCut t (length ps)) (sym (fun_same (has q) (mark_of seen) same)) cut;
     below = All-from_has (λ v. v < t.graph.nodes) q (λ v h. elim (cases_lt v t.graph.nodes) [
       | inl l ↦ l
       | inr ge ↦ absurd (both_ways (mark_of seen v) (unmarked_past seen v (omega (arith, ge, size))) (sym (same v) ∙ h))
@@ -84,9 +84,9 @@ first_put [] p l = absurd (omega arith)
 first_put (q ∷ paths) p l = refl
 
 -- a flow without paths
-pub kept_new : (g : Network) (a : Ask) (targets banned : List ℕ) (room : Vec ℕ Global) → IsAsked g a → ((v : ℕ) → mark_of a.targets.items v ≡ holds targets v) → ((v : ℕ) → mark_of a.banned.items v ≡ holds banned v)
+pub kept_new : (g : Network) (a : Ask) (targets banned : List ℕ) (room : Vec ℕ Global) → IsAsked g a → ((v : ℕ) → mark_of a.targets.items v ≡ has targets v) → ((v : ℕ) → mark_of a.banned.items v ≡ has banned v)
     → length room.items ≡ g.nodes → IsKept g a targets banned 0 (room ∷ [])
-unfolding holds
+unfolding has
 kept_new g a targets banned room is h k long = record {
   is_asked = is;
   marks_targets = h;

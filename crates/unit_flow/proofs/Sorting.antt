@@ -1,4 +1,5 @@
 -- The paths are taken one after the other in the order of their second nodes.
+use Rattle.std.specs.Option.{is_some}
 use Rattle.std.proofs.Common.{ℕ, zero, suc, ◌+◌, ◌<◌, ◌≤◌, ◌≡◌, true, false, not, nat_lt, ◌==◌, eqb, List, [], ◌∷◌, ◌++◌, map, length, get_or, set, sum_by, All, AllPairs, Option, Some, None, refl, sym, ap, subst, ◌∙◌, arith, inl, inr, length-append}
 use Rattle.std.specs.List.{filter}
 use Rattle.std.specs.List.Sorted.{IsPermutation}
@@ -15,7 +16,7 @@ use Rattle.tomo_base.proofs.Ascending.{has-at, place_in}
 use Rattle.simple_path.specs.Pools.{nodes_in}
 use Rattle.simple_path.proofs.Pools.{nodes_in-append}
 use Rattle.unit_flow.specs.Flows.{second_of}
-use Rattle.unit_flow.specs.Arrays.{is_on, on}
+use Rattle.unit_flow.specs.Arrays.{on}
 use Rattle.unit_flow.specs.Steps.{entry_of}
 use Rattle.unit_flow.specs.Order.{AreInOrder, ArePlaces}
 use Rattle.unit_flow.proofs.Moves.{some_inj, put_there, put_else, stays_on}
@@ -137,8 +138,8 @@ places_none ps places bare = record { entered = λ k l. absurd (omega (arith, l)
 pub places_more : (ps : List (List ℕ)) (i u : ℕ) (places : List (Option ℕ)) → u < length places → second_of (get_or ps i []) ≡ u → ArePlaces ps i places → ArePlaces ps (i + 1) (set places u (Some i))
 places_more ps i u places room e s = record {
   entered = λ k l. elim (cases_eq k i) [
-    | inl same ↦ ap is_on (array_put places u (second_of (get_or ps k [])) (Some i) room ∙ put_there (entry_of places) u (second_of (get_or ps k [])) (Some i) (eq-eqb (second_of (get_or ps k [])) u (ap (λ z. second_of (get_or ps z [])) same ∙ e)))
-    | inr ne ↦ ap is_on (array_put places u (second_of (get_or ps k [])) (Some i) room) ∙ stays_on (entry_of places) u i (second_of (get_or ps k [])) (s.entered k (omega (arith, l, ne)))
+    | inl same ↦ ap is_some (array_put places u (second_of (get_or ps k [])) (Some i) room ∙ put_there (entry_of places) u (second_of (get_or ps k [])) (Some i) (eq-eqb (second_of (get_or ps k [])) u (ap (λ z. second_of (get_or ps z [])) same ∙ e)))
+    | inr ne ↦ ap is_some (array_put places u (second_of (get_or ps k [])) (Some i) room) ∙ stays_on (entry_of places) u i (second_of (get_or ps k [])) (s.entered k (omega (arith, l, ne)))
   ];
   sound = λ v k h. elim (cases_Bool (eqb v u)) [
     | inl same ↦
@@ -156,4 +157,4 @@ places_bare ps places v s e = false_from_ne_true (has (map second_of ps) v) (λ 
     let at = place_in (map second_of ps) v h in
     let inside : at.0 < length ps = let e : length (map second_of ps) ≡ length ps = length-map ps second_of in omega (arith, e, at.1) in
     let is : second_of (get_or ps at.0 []) ≡ v = sym (get_or-map second_of ps at.0 [] 0 inside) ∙ at.2 in
-    false≢true (sym (ap is_on e) ∙ ap (λ z. on (entry_of places) z) (sym is) ∙ s.entered at.0 inside))
+    false≢true (sym (ap is_some e) ∙ ap (λ z. on (entry_of places) z) (sym is) ∙ s.entered at.0 inside))

@@ -7,7 +7,7 @@ use crate::flow::{Flow, Widened};
 use std::alloc::Global;
 use tomo_base::{Graph, NoMemory, NodeSet};
 
-/// Three paths from a node to different targets that share only the node, or the least set that stops a third.
+/// Three paths from a node to different targets that share only the node, or the least set that fewer cut off.
 #[derive(Drop)]
 pub enum Fanned {
     /// The flow of the three paths.

@@ -8,4 +8,5 @@ pub mod RowFaults
 pub mod Reading
 pub mod Ending
 pub mod Named
+pub mod OneAnswer
 pub mod Examples

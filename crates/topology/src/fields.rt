@@ -3,6 +3,9 @@ ghost use Rattle.std.specs.Prelude.{◌≡◌, false, IfSome, IfNone, IsTrue, re
 ghost use Rattle.topology.specs.Names as spec;
 ghost use Rattle.topology.specs.Names.{after_blanks, is_name};
 
+// How many bytes a name may have.
+const NAME_LIMIT: usize = 64;
+
 fn is_blank(byte: u8) -> bool
     ensures { result ≡ spec.is_blank byte }
 {
@@ -50,7 +53,7 @@ pub(crate) fn name_in(field: &[u8]) -> Option<&str>
     ensures none { IfNone result (is_name (spec.trimmed field.now) ≡ false) }
 {
     let bytes = trimmed(field);
-    if bytes.is_empty() || bytes.len() > 64 {
+    if bytes.is_empty() || bytes.len() > NAME_LIMIT {
         return None;
     }
     str::from_utf8(bytes).ok()

@@ -44,7 +44,7 @@ impl Topology {
         &self.graph
     }
 
-    /// The name of a node. It takes no memory.
+    /// The name of the node with this number. It takes no memory.
     pub fn name(&self, v: u32) -> &str
         requires { v < self.now.graph.nodes }
         ensures name { slice_get self.now.names v ≡ Some result.now }
@@ -53,7 +53,7 @@ impl Topology {
         self.names.at(v)
     }
 
-    /// The node that has a name. It takes no memory.
+    /// `Some(v)` exactly where the node `v` has this name. It takes no memory.
     pub fn find(&self, name: &str) -> Option<u32>
         ensures found { IfSome result (λ v. slice_get self.now.names v ≡ Some name.now) }
         ensures only { (v : ℕ) → slice_get self.now.names v ≡ Some name.now → result ≡ Some v }

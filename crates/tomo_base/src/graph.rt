@@ -67,6 +67,9 @@ impl Model for Graph {
 }
 
 impl Graph {
+    /// The graph with the nodes 0 to n - 1 and these links, each turned so that its lower end comes first. The error is want of memory, or
+    /// the first fault of the list: the first link, by its place from 0, that has an end which is no node, joins a node to itself, or joins
+    /// the nodes of an earlier one; where a link has more than one of these, the first named.
     pub fn new(alloc: Global, n: u32, links: &[Link]) -> Result<Graph, GraphFault>
         requires few_nodes { n ≤ 10000 }
         requires few_links { length links.now ≤ 20000 }
@@ -102,6 +105,7 @@ impl Graph {
         })
     }
 
+    /// How many nodes there are. It takes no memory.
     pub fn nodes(&self) -> u32
         ensures nodes { result ≡ self.now.nodes }
         ensures few { result ≤ 10000 }
@@ -110,6 +114,7 @@ impl Graph {
         self.node_count
     }
 
+    /// The links, in the order in which they were given, each with its lower end first. It takes no memory.
     pub fn links(&self) -> &[Link]
         ensures links { result.now ≡ self.now.links }
         ensures few { length result.now ≤ 20000 }
@@ -118,6 +123,7 @@ impl Graph {
         &self.links
     }
 
+    /// The neighbours of a node, ascending, each with the number of the link to it. It takes no memory.
     pub fn hops(&self, v: u32) -> &[Hop]
         requires { v < self.now.nodes }
         ensures { AreHops self.now.links v result.now }
@@ -125,6 +131,7 @@ impl Graph {
         &self.hops[v as usize]
     }
 
+    /// The number of the link between two nodes, where there is one. It takes no memory.
     pub fn between(&self, a: u32, b: u32) -> Option<u32>
         requires first { a < self.now.nodes }
         requires second { b < self.now.nodes }

@@ -1,2 +1,9 @@
 pub mod Joining
 pub mod Numbering
+pub mod Sorting
+pub mod Turning
+pub mod Merging
+pub mod Tallies
+pub mod Built
+pub mod Formed
+pub mod Copying

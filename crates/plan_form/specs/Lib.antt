@@ -5,3 +5,5 @@ pub mod Order
 pub mod Building
 pub mod Good
 pub mod Held
+pub mod Buildable
+pub mod Steps

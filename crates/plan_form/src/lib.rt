@@ -1,7 +1,12 @@
 //! Plans: what stands in one, how it is made of paths and recipes, and its rows.
 #![tactic(auto)]
 
+mod build;
+mod copies;
+mod directions;
+mod order;
 mod plan;
+mod sums;
 mod write;
 
 pub use plan::Plan;

@@ -1,0 +1,63 @@
+-- The parts that are made for a plan can be spelled.
+use Rattle.std.proofs.Common.{◌≡◌, ℕ, ◌+◌, ◌<◌, ◌≤◌, ◌^◌, Bool, List, [], ◌∷◌, length, map, get_or, sym, subst, arith, All, IsTrue}
+use Rattle.std.proofs.lemmas.List.{get_or_default}
+use Rattle.std.proofs.lemmas.List.Elements.{All-cons, All-map}
+use Rattle.tomo_base.specs.declared.graph.Link.{Link}
+use Rattle.tomo_base.specs.declared.pocket.Pocket.{Pocket}
+use Rattle.tomo_base.specs.Network.{Network, AreLinks, IsGraph}
+use Rattle.tomo_base.specs.Walks.{StepsFrom}
+use Rattle.tomo_base.specs.Identify.{IsMonitorPath}
+use Rattle.tomo_base.proofs.Links.{linked_below}
+use Rattle.topology.specs.Names.{is_name as topology_name}
+use Rattle.topology.specs.Topology.{Topo, IsTopology}
+use Rattle.simple_path.specs.declared.recipe.Term.{Term}
+use Rattle.plan_form.specs.declared.plan.HeldPocket.{HeldPocket}
+use Rattle.plan_form.specs.Building.{IsBuilt}
+use Rattle.plan_form.specs.Buildable.{IsBuildable, IsShort, as_part}
+use Rattle.plan_form.specs.Held.{part_of}
+use Rattle.plan_form.specs.Parts.{PlanPocket, IsSmall, IsNodeList, IsTermList, is_name}
+use Rattle.plan_form.proofs.Built.{rewritten_within}
+
+-- the names of a topology
+pub names_formed : (t : Topo) → IsTopology t → All (λ n. IsTrue (is_name n)) t.names
+unfolding topology_name
+names_formed t is = is.named
+
+links_below : (n : ℕ) (links : List Link) → n ≤ 1000 → AreLinks n links → All (λ l. IsSmall l.a × IsSmall l.b) links
+links_below n [] few are = λ k d l. absurd (omega (arith, l))
+links_below n (link ∷ links) few are = All-cons (λ (l : Link). IsSmall l.a × IsSmall l.b) link links (omega (arith, are.0, are.1, few), omega (arith, are.1, few)) (links_below n links few are.3)
+
+-- its links
+pub links_formed : (t : Topo) → IsTopology t → All (λ l. IsSmall l.a × IsSmall l.b) t.graph.links
+links_formed t is = links_below t.graph.nodes t.graph.links is.few_nodes is.graph
+
+-- pockets, as a plan keeps them
+pub pockets_formed : (held : List HeldPocket) (given : List Pocket) → All (λ k. IsSmall k.need × All IsSmall k.nodes.items) held → map part_of held ≡ map as_part given → All (λ k. 0 < length k.nodes) given
+    → All (λ k. IsSmall k.need × IsNodeList k.nodes) (map part_of held)
+pockets_formed held given small same filled k d l =
+    let numbers = All-map (λ (p : PlanPocket). IsSmall p.need × All IsSmall p.nodes) part_of held small k d l in
+    let some = subst (All (λ (p : PlanPocket). 0 < length p.nodes)) (sym same) (All-map (λ (p : PlanPocket). 0 < length p.nodes) as_part given filled) k d l in
+    (numbers.0, (some, numbers.1))
+
+steps_below : (g : Network) (a : ℕ) (p : List ℕ) → IsGraph g → StepsFrom g a p → All (λ v. v < g.nodes) p
+steps_below g a [] graph steps = λ k d l. absurd (omega (arith, l))
+steps_below g a (b ∷ p) graph steps = All-cons (λ v. v < g.nodes) b p (linked_below g.nodes g.links a b graph steps.0).1 (steps_below g b p graph steps.1)
+
+nodes_below : (g : Network) (m : ℕ → Bool) (p : List ℕ) → IsGraph g → IsMonitorPath g m p → All (λ v. v < g.nodes) p
+nodes_below g m [] graph path = λ k d l. absurd (omega (arith, l))
+nodes_below g m (a ∷ []) graph path = absurd (omega (arith, path.two))
+nodes_below g m (a ∷ b ∷ p) graph path = All-cons (λ v. v < g.nodes) a (b ∷ p) (linked_below g.nodes g.links a b graph path.linked.0).0 (steps_below g a (b ∷ p) graph path.linked)
+
+-- monitor paths of a topology
+pub paths_formed : (t : Topo) (m : ℕ → Bool) (paths : List (List ℕ)) → IsTopology t → All (IsMonitorPath t.graph m) paths → All IsNodeList paths
+paths_formed t m paths is each k d l =
+    let path = each k d l in
+    (omega (arith, path.two), λ j e n. omega (arith, nodes_below t.graph m (get_or paths k d) is.graph path j e n, is.few_nodes))
+
+-- recipes
+pub recipes_formed : (g : Network) (m : ℕ → Bool) (pool : List (List ℕ)) (old : List (List Term)) (paths : List (List ℕ)) (new : List (List Term)) → IsBuildable g m pool old → IsBuilt pool old paths new → length paths < 2 ^ 31 → All IsTermList new
+recipes_formed g m pool old paths new can built few i d l =
+    let within : i < length old = omega (arith, l, built.one_each) in
+    let short : IsShort (get_or new i []) = can.short paths i (get_or new i []) built.ascending within (built.recipes i within) in
+    let names : All (λ (t : Term). t.path < length paths) (get_or new i []) = rewritten_within pool paths (get_or old i []) (get_or new i []) (built.recipes i within) in
+    rw (get_or_default new i d [] l) (short.0, short.1, λ k e n. (short.2 k e n, omega (arith, names k e n, few)))

@@ -1,0 +1,118 @@
+-- A sort of vectors sorts the lists that they hold.
+use Rattle.std.proofs.Common.{◌≡◌, ℕ, zero, suc, ◌+◌, add-one, ◌<◌, ◌≤◌, eqb, Bool, List, [], ◌∷◌, length, map, get_or, refl, sym, ap, ◌∙◌, inl, inr, arith, Vec, Contains}
+use lib.Pointwise.{pointwise, bytes_decides}
+use Rattle.std.specs.Global.{Global}
+use Rattle.std.specs.declared.cmp.Ordering.{Ordering}
+use Rattle.std.specs.Ordering.{nat_cmp}
+use Rattle.std.specs.Cmp.Lexicographic.{lists_ties, nat_list_cmp_total, nat_list_eq_equiv}
+use Rattle.std.specs.Cmp.{unsigned_ties}
+use Rattle.std.specs.List.{dedup}
+use Rattle.std.specs.List.Sorted.{IsSorted, IsStrictlySortedBy}
+use Rattle.std.specs.List.{sum_by}
+use Rattle.std.specs.List.Sorted.{IsSortedBy, IsNonDecreasingBy, IsPartitionPoint, IsPermutation}
+use Rattle.std.specs.Ordering.{is_lt, ordering_reverse, ordering_index}
+use Rattle.std.specs.declared.cmp.Ordering.TheVariants.{Less, Equal, Greater}
+use Rattle.std.proofs.lemmas.Bool.{cases_Bool, cases_lt}
+use Rattle.std.proofs.lemmas.List.Recursion.{is_sum_by}
+use Rattle.std.proofs.lemmas.List.Sorted.{sum_by-IsPermutation, searchable_from_sorted}
+use Rattle.std.proofs.lemmas.Map.Lookups.{exact_bytes}
+use Rattle.simple_path.specs.Pools.{nodes_in}
+use Rattle.std.proofs.lemmas.List.{get_or-map, length-map}
+use Rattle.std.proofs.lemmas.List.Kept.{IsStrictlySortedBy-dedup, Contains-dedup}
+use Rattle.plan_form.specs.Order.{path_cmp}
+use Rattle.plan_form.specs.Building.{turned}
+use Rattle.plan_form.specs.Steps.{lists_of, IsNumberOf}
+
+-- what is kept of elements that are compared by a value is what is kept of the values
+dedup_more : {X Y : Type 0} (f : X → Y) (E : Y → Y → Bool) (x : X) (xs : List X) → map f (dedup (λ a b. E (f a) (f b)) (x ∷ xs)) ≡ dedup E (f x ∷ map f xs)
+dedup_more f E x [] = refl
+dedup_more f E x (y ∷ ys) = elim (cases_Bool (E (f y) (f x)))
+    [ inl e ↦ rw e (dedup_more f E x ys) | inr e ↦ rw e (ap (λ t. f x ∷ t) (dedup_more f E y ys)) ]
+
+pub dedup-map : {X Y : Type 0} (f : X → Y) (E : Y → Y → Bool) (xs : List X) → map f (dedup (λ a b. E (f a) (f b)) xs) ≡ dedup E (map f xs)
+dedup-map f E [] = refl
+dedup-map f E (x ∷ xs) = dedup_more f E x xs
+
+-- elements in the order of a value have their values in order
+pub sorted-map : {X Y : Type 0} (f : X → Y) (R : Y → Y → Ordering) (xs : List X) → IsSorted (λ a b. R (f a) (f b)) xs → IsSorted R (map f xs)
+sorted-map f R [] sorted k d low lt = absurd (omega (arith, lt))
+sorted-map f R (x ∷ xs) sorted k d low lt =
+    let below : k + 1 < length (x ∷ xs) = omega (arith, lt, length-map (x ∷ xs) f) in
+    rw (get_or-map f (x ∷ xs) (k + 1) x d below, get_or-map f (x ∷ xs) k x d (omega (arith, below))) (sorted k x low below)
+
+-- sorted, and each once
+pub rises : (vs : List (Vec ℕ Global)) → IsSorted path_cmp (lists_of vs) → IsStrictlySortedBy path_cmp (dedup (pointwise eqb) (lists_of vs))
+rises vs sorted = IsStrictlySortedBy-dedup nat_list_cmp_total (lists_ties nat_cmp unsigned_ties) (lists_of vs) sorted
+
+-- and none is lost
+pub keeps : (ps : List (List ℕ)) (p : List ℕ) → Contains ps p → Contains (dedup (pointwise eqb) ps) p
+keeps ps p h = Contains-dedup nat_list_eq_equiv (λ x y. (bytes_decides x y).0) ps p h
+
+-- ---- how many node numbers
+
+-- as the sum of the lengths
+nodes_in-sum : (ps : List (List ℕ)) → nodes_in ps ≡ sum_by (length {A = ℕ}) ps
+nodes_in-sum = is_sum_by nodes_in (length {A = ℕ}) refl (λ p ps. refl)
+
+-- a sort leaves as many
+nodes_in-permutation : (ps qs : List (List ℕ)) → IsPermutation ps qs → nodes_in qs ≡ nodes_in ps
+nodes_in-permutation ps qs h = nodes_in-sum qs ∙ (sum_by-IsPermutation (length {A = ℕ}) ps qs h ∙ sym (nodes_in-sum ps))
+
+-- no more are left when equal paths are kept once
+nodes_in-dedup : (E : List ℕ → List ℕ → Bool) (ps : List (List ℕ)) → nodes_in (dedup E ps) ≤ nodes_in ps
+nodes_in-dedup E [] = omega arith
+nodes_in-dedup E (p ∷ ps) = from p ps
+  where
+    from : (p : List ℕ) (ps : List (List ℕ)) → nodes_in (dedup E (p ∷ ps)) ≤ nodes_in (p ∷ ps)
+    from p [] = omega arith
+    from p (q ∷ ps) = elim (cases_Bool (E q p)) [
+      | inl e ↦ rw e (omega (arith, from p ps))
+      | inr e ↦ rw e (omega (arith, from q ps))
+    ]
+
+-- after both
+pub nodes_in-sorted : (E : List ℕ → List ℕ → Bool) (ps qs : List (List ℕ)) → IsPermutation ps qs → nodes_in (dedup E qs) ≤ nodes_in ps
+nodes_in-sorted E ps qs h = omega (arith, nodes_in-permutation ps qs h, nodes_in-dedup E qs)
+
+-- ---- the place of a path
+
+-- paths that ascend are in order
+in_order : (vs : List (Vec ℕ Global)) → IsStrictlySortedBy path_cmp (lists_of vs) → IsSortedBy (λ a b. is_lt (path_cmp a.items b.items)) vs
+unfolding IsStrictlySortedBy
+in_order [] up k d low l = absurd (omega (arith, l))
+in_order (a ∷ []) up k d low l = absurd (omega (arith, l))
+in_order (a ∷ b ∷ vs) up zero d low l = rw (nat_list_cmp_total.antisymm b.items a.items, up.0.0) refl
+in_order (a ∷ b ∷ vs) up (suc k) d low l = rw add-one (rw add-one at (in_order (b ∷ vs) up.1 k d (omega arith) (omega (arith, l))))
+
+-- a path is neither less nor greater than itself
+itself : (p : List ℕ) → path_cmp p p ≡ Equal
+itself p = settle (path_cmp p p) (nat_list_cmp_total.antisymm p p)
+  where
+    settle : (o : Ordering) → o ≡ ordering_reverse o → o ≡ Equal
+    settle Less e = cc e
+    settle Equal e = refl
+    settle Greater e = cc e
+
+-- a search that ended at no path, where the path stands
+pub search_finds : (vs : List (Vec ℕ Global)) (key : List ℕ) (i : ℕ) → IsStrictlySortedBy path_cmp (lists_of vs) → Contains (lists_of vs) key
+    → (IsNonDecreasingBy (λ v. ordering_index (path_cmp v.items key)) vs → IsPartitionPoint (λ v. path_cmp v.items key ≡ Less) (λ v. path_cmp v.items key ≡ Greater) vs i) → ⊥
+search_finds [] key i up at found = omega (arith, at.1)
+search_finds (v ∷ vs) key i up at found =
+    let parts = found (searchable_from_sorted nat_list_cmp_total (λ (v : Vec ℕ Global). v.items) (v ∷ vs) key (in_order (v ∷ vs) up)) in
+    let within : at.0 < length (v ∷ vs) = rw length-map at at.1 in
+    let same : (get_or (v ∷ vs) at.0 v).items ≡ key = rw (get_or-map (λ (v : Vec ℕ Global). v.items) (v ∷ vs) at.0 v key within) at at.2 in
+    let tie : path_cmp (get_or (v ∷ vs) at.0 v).items key ≡ Equal = rw same (itself key) in
+    elim (cases_lt at.0 i) [
+      | inl lt ↦ apart (sym tie ∙ parts.0 at.0 v (omega arith) lt)
+      | inr le ↦ apart' (sym tie ∙ parts.1 at.0 v le within)
+    ]
+  where
+    apart : Equal ≡ Less → ⊥
+    apart e = cc e
+
+    apart' : Equal ≡ Greater → ⊥
+    apart' e = cc e
+
+-- a search that ended at an equal path
+pub search_number : (vs : List (Vec ℕ Global)) (key : Vec ℕ Global) (path : List ℕ) (i : ℕ) → i < length vs → ((d : Vec ℕ Global) → path_cmp (get_or vs i d).items key.items ≡ Equal) → key.items ≡ turned path → IsNumberOf (lists_of vs) path i
+search_number vs key path i l tie is = (rw length-map l, get_or-map (λ (v : Vec ℕ Global). v.items) vs i key [] l ∙ (exact_bytes (get_or vs i key).items key.items (tie key) ∙ is))

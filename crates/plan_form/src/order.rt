@@ -1,0 +1,51 @@
+// Paths in order, and their numbers.
+ghost use Rattle.std.specs.Prelude.{ℕ, ◌≤◌, ◌<◌, ◌^◌, List, length, map, Contains, IfOk};
+ghost use Rattle.std.specs.List.Sorted.{IsStrictlySortedBy};
+ghost use Rattle.simple_path.specs.Pools.{nodes_in};
+ghost use Rattle.plan_form.specs.Building.{turned};
+ghost use Rattle.plan_form.specs.Order.{path_cmp};
+ghost use Rattle.plan_form.specs.Steps.{lists_of, IsNumberOf, AreNumbers};
+
+use crate::directions::turn;
+use simple_path::PathPool;
+use std::alloc::Global;
+use tomo_base::NoMemory;
+
+// Sorts paths in lexicographic order and keeps equal ones once.
+pub fn sort_paths(paths: &mut Vec<Vec<u32>>)
+    ensures ascending { IsStrictlySortedBy path_cmp (lists_of paths.new.items) }
+    ensures kept { (q : List ℕ) → Contains (lists_of paths.old.items) q → Contains (lists_of paths.new.items) q }
+    ensures given { (q : List ℕ) → Contains (lists_of paths.new.items) q → Contains (lists_of paths.old.items) q }
+    ensures paths { length (lists_of paths.new.items) ≤ length (lists_of paths.old.items) }
+    ensures nodes { nodes_in (lists_of paths.new.items) ≤ nodes_in (lists_of paths.old.items) }
+{
+    paths.sort_unstable();
+    paths.dedup();
+}
+
+// The number of a path of the pool, turned, among the paths in order.
+fn number_of(alloc: Global, paths: &[Vec<u32>], path: &[u32]) -> Result<u32, NoMemory>
+    requires ascending { IsStrictlySortedBy path_cmp (lists_of paths.now) }
+    requires few { length paths.now < 2 ^ 32 }
+    requires member { Contains (lists_of paths.now) (turned path.now) }
+    ensures { IfOk result (IsNumberOf (lists_of paths.now) path.now) }
+{
+    match paths.binary_search(&turn(alloc, path)?) {
+        Ok(place) => Ok(place as u32),
+        Err(_) => unreachable!(),
+    }
+}
+
+// The number of each path of the pool among the paths in order.
+pub fn number_all(alloc: Global, paths: &[Vec<u32>], pool: &PathPool) -> Result<Vec<u32>, NoMemory>
+    requires ascending { IsStrictlySortedBy path_cmp (lists_of paths.now) }
+    requires few { length paths.now < 2 ^ 32 }
+    requires members { (q : List ℕ) → Contains (map turned pool.now) q → Contains (lists_of paths.now) q }
+    ensures { IfOk result (λ numbers. AreNumbers pool.now (lists_of paths.now) numbers.items) }
+{
+    let mut numbers = Vec::new(alloc);
+    for i in 0..pool.len() {
+        numbers.push(number_of(alloc, paths, pool.path(i))?)?;
+    }
+    Ok(numbers)
+}

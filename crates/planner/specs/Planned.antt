@@ -1,0 +1,25 @@
+-- What is promised of a plan: it is good, its monitors are the lowest set, its paths determine every link's delay, and its pockets show that no smaller set does.
+use Rattle.std.specs.Prelude.{ℕ, ◌*◌, ◌≤◌, Bool, List, length}
+use Rattle.tomo_base.specs.Network.{Network}
+use Rattle.tomo_base.specs.Sets.{has, size, nothing}
+use Rattle.tomo_base.specs.Identify.{Identified, Identifies}
+use Rattle.tomo_base.specs.Lowest.{IsLowest}
+use Rattle.tomo_base.specs.Pockets.{Shows, AreHomePockets}
+use Rattle.plan_form.specs.Parts.{PlanParts}
+use Rattle.plan_form.specs.Good.{IsGoodPlan, pocket_sets}
+
+pub record IsPlanned (given : List (List ℕ)) (g : Network) (p : PlanParts) : Type 0 where
+  -- the plan has the topology's names and links, and all its parts are good
+  pub good : IsGoodPlan given g p
+  -- no identifying set has, for any h, fewer nodes numbered h or above
+  pub lowest : IsLowest g (has p.monitors)
+  -- the pockets are the home pockets of the monitors
+  pub homes : AreHomePockets g (has p.monitors) nothing (pocket_sets p.pockets)
+  -- at most four paths for each link
+  pub few_paths : length p.paths ≤ 4 * length p.links
+  -- the printed paths determine every link's delay
+  pub identified : Identified g p.paths
+  -- the printed pockets show that so many monitors are needed
+  pub shown : Shows g (pocket_sets p.pockets) (length p.monitors)
+  -- every set that identifies, even by every simple path, has at least as many nodes
+  pub least : (s : ℕ → Bool) → Identifies g s → length p.monitors ≤ size g s

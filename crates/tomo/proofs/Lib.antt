@@ -1,0 +1,5 @@
+pub mod Written
+pub mod Shape
+pub mod Gathering
+pub mod Ending
+pub mod Taking

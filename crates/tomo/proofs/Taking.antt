@@ -1,0 +1,58 @@
+-- What taking in a file leads to, by what was read of it.
+use Rattle.std.proofs.Common.{◌≡◌, ℕ, zero, suc, List, [], ◌∷◌, get_or, slice_get, Some, None, ◌≤◌, length, nat_lt, Result, Ok, Err, sym, ap, ◌∙◌, refl, inl, inr, subst, arith}
+use Rattle.std.specs.Prelude.{codes, IfOk}
+use Rattle.std.proofs.lemmas.Bool.{cases_Bool, ltb-true}
+use Rattle.outside.specs.declared.shelf.Got.TheVariants.{Whole}
+use Rattle.rows.specs.Rows.{RowList, rows_of}
+use Rattle.topology.specs.Topology.{Topo}
+use Rattle.planner.specs.Narrow.{IsFirstHub}
+use Rattle.tomo.specs.Machine.{WithTopology, Takes, Steps, StepsBy, kind_of}
+use Rattle.tomo.specs.Table.{limit}
+use Rattle.tomo.proofs.Gathering.{tells-map}
+use Rattle.tomo_base.specs.declared.memory.NoMemory.{NoMemory}
+use Rattle.tomo.specs.declared.machine.Wants.{Wants}
+use Rattle.tomo.specs.declared.machine.Next.{Next}
+use Rattle.tomo.specs.Refusals.{refused}
+use Rattle.tomo.specs.declared.narrow.Narrow.{Narrow}
+use Rattle.tomo.specs.declared.table.Command.{Command}
+use Rattle.tomo.specs.declared.table.Command.TheVariants.{Plan}
+use Rattle.tomo.specs.declared.machine.Inputs.TheVariants as inputs
+use Rattle.tomo.specs.declared.machine.End.TheVariants.{Ready, Refused}
+use Rattle.tomo.specs.declared.machine.Next.TheVariants.{Stop}
+
+-- what stands at a place
+some_at : (xs : List (List ℕ)) (i : ℕ) (x : List ℕ) → slice_get xs i ≡ Some x → get_or xs i [] ≡ x
+some_at [] i x h = absurd (none h)
+  where
+    none : None ≡ Some x → ⊥
+    none e = cc
+some_at (y ∷ ys) zero x h = cc h
+some_at (y ∷ ys) (suc i) x h = some_at ys i x h
+
+-- a network whose nodes have at most two neighbours is planned
+pub plan_ready : (command : Command) (name : List ℕ) (t : Topo) (n : Narrow) → n.topology ≡ t → WithTopology command name t (Stop (Ready (inputs.Plan n)))
+plan_ready Plan name t n same = inl (n, same, refl)
+
+-- any other is refused
+pub plan_refused : (command : Command) (name : List ℕ) (t : Topo) (v : ℕ) (place : List ℕ) (rows : RowList) → IsFirstHub t.graph v → slice_get t.names v ≡ Some place
+    → rows ≡ refused name (codes "degree") place → WithTopology command name t (Stop (Refused rows))
+plan_refused Plan name t v place rows hub there same = inr (v, hub, ap (λ r. Stop (Refused r)) (same ∙ ap (refused name (codes "degree")) (sym (some_at t.names v place there))))
+
+-- a file within its limit does what its rows do
+steps_within : (wants : Wants) (name content : List ℕ) (next : Next) → length content ≤ limit (kind_of wants) → Takes wants name (rows_of content) next → Steps wants name content next
+steps_within wants name content next within takes = elim (cases_Bool (nat_lt (limit (kind_of wants)) (length content))) [
+  | inl e ↦ absurd (omega (arith, ltb-true (limit (kind_of wants)) (length content) e, within))
+  | inr e ↦ rw e takes
+]
+
+-- so does what was read of it, whatever else the shelf tells
+pub whole_steps : (wants : Wants) (name content : List ℕ) (next : Next) → Takes wants name (rows_of content) next → StepsBy wants name Whole content next
+whole_steps wants name content next takes told gives =
+    let P : List ℕ → Type 0 = λ file. content ≡ file in
+    let Q : List ℕ → Type 0 = λ file. Steps wants name file next in
+    tells-map told name P Q (λ file same. subst Q same (steps_within wants name content next gives.0 takes)) gives.1
+
+-- and for whatever comes of it
+pub whole_answers : (wants : Wants) (name content : List ℕ) (result : Result Next NoMemory) → IfOk result (λ next. Takes wants name (rows_of content) next) → IfOk result (λ next. StepsBy wants name Whole content next)
+whole_answers wants name content (Ok next) takes = whole_steps wants name content next takes
+whole_answers wants name content (Err e) takes = tt

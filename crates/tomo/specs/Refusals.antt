@@ -1,0 +1,35 @@
+-- Refusals: one row with the refused word, a reason and a place.
+use Rattle.std.specs.Prelude.{ℕ, ◌∷◌, [], List, codes, decimal, slice_index_or}
+use Rattle.rows.specs.Rows.{Row, RowList}
+use Rattle.topology.specs.declared.faults.TopoFault.{TopoFault}
+use Rattle.topology.specs.declared.faults.TopoFault.TheVariants.{NoMemory, Width, Name, Loop, Nodes, Links, Few, Apart}
+
+-- closed rows, and none at hand
+abbrev pub only : List Row → RowList
+only rows = record { closed = rows; current = [] }
+
+-- the one row that refuses a word
+abbrev pub refused : List ℕ → List ℕ → List ℕ → RowList
+refused word reason place = only ((codes "refused" ∷ word ∷ reason ∷ place ∷ []) ∷ [])
+
+-- why a topology is refused
+abbrev pub topology_reason : TopoFault → List ℕ
+topology_reason NoMemory = []
+topology_reason (Width r) = codes "width"
+topology_reason (Name r) = codes "name"
+topology_reason (Loop r) = codes "loop"
+topology_reason (Nodes r) = codes "nodes"
+topology_reason (Links r) = codes "links"
+topology_reason (Few n) = codes "few"
+topology_reason (Apart v) = codes "apart"
+
+-- where: the row, the number of nodes, or the name of the node
+abbrev pub topology_place : List (List ℕ) → TopoFault → List ℕ
+topology_place names NoMemory = []
+topology_place names (Width r) = decimal r
+topology_place names (Name r) = decimal r
+topology_place names (Loop r) = decimal r
+topology_place names (Nodes r) = decimal r
+topology_place names (Links r) = decimal r
+topology_place names (Few n) = decimal n
+topology_place names (Apart v) = slice_index_or names v []

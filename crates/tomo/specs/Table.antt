@@ -1,0 +1,75 @@
+-- The table of commands, and the shape of a command line.
+use Rattle.std.specs.Prelude.{ℕ, ◌+◌, ◌-◌, ◌∷◌, [], ◌&&◌, List, length, take, drop, codes, Bool, true, false, Option, Some, None, nat_lt, if◌then◌else◌, ◌==◌, slice_index_or, nat_eq}
+use Rattle.std.specs.List.{starts_with}
+use Rattle.std.specs.Str.{bytes_eq}
+use Rattle.tomo.specs.declared.table.Command.{Command}
+use Rattle.tomo.specs.declared.table.Command.TheVariants.{Plan}
+use Rattle.tomo.specs.declared.table.Kind.{Kind}
+use Rattle.tomo.specs.declared.table.Kind.TheVariants.{TopologyFile}
+use Rattle.tomo.specs.declared.table.Shape.{Shape}
+
+-- the most bytes of a file
+abbrev pub limit : Kind → ℕ
+limit TopologyFile = 4194304
+
+-- the word of each command
+abbrev pub command_of : List ℕ → Option Command
+command_of word = if bytes_eq word (codes "plan") then Some Plan else None
+
+-- the files of each command, in the order in which they are asked for
+abbrev pub files_of : Command → List Kind
+files_of Plan = TopologyFile ∷ []
+
+-- how many words a command takes after its files
+abbrev pub other_words : Command → ℕ
+other_words Plan = 0
+
+-- how many words a command takes in all after its own and the option
+abbrev pub word_count : Command → ℕ
+word_count command = length (files_of command) + other_words command
+
+-- the word begins with two dashes
+abbrev pub begins_option : List ℕ → Bool
+begins_option word = starts_with nat_eq word (codes "--")
+
+-- no word begins with two dashes
+unfoldable pub no_options : List (List ℕ) → Bool
+no_options [] = true
+no_options (word ∷ words) = if begins_option word then false else no_options words
+
+-- the word after the command says that the topology's first row is a header
+abbrev pub has_header : List (List ℕ) → Bool
+has_header words = nat_lt 1 (length words) && bytes_eq (slice_index_or words 1 []) (codes "--header")
+
+-- the place of the first file
+abbrev pub first_place : Bool → ℕ
+first_place true = 2
+first_place false = 1
+
+-- as many words as the command takes stand from this place on, and no option
+abbrev pub fits : List (List ℕ) → Command → ℕ → Bool
+fits words command first =
+    (nat_lt first (length words + 1) && (length words - first == word_count command)) && no_options (drop first words)
+
+-- the shape of words that begin with a command
+abbrev pub shaped : List (List ℕ) → Option Command → Option Shape
+shaped words None = None
+shaped words (Some command) =
+    if fits words command (first_place (has_header words)) then Some (record { command = command; header = has_header words }) else None
+
+-- the shape of the words, where they have one
+abbrev pub shape : List (List ℕ) → Option Shape
+shape words = shaped words (command_of (slice_index_or words 0 []))
+
+-- the names of the files of a shape
+abbrev pub names_of : Shape → List (List ℕ) → List (List ℕ)
+names_of shape words = take (length (files_of shape.command)) (drop (first_place shape.header) words)
+
+-- the names of the files, where there is a shape
+abbrev pub named : List (List ℕ) → Option Shape → List (List ℕ)
+named words None = []
+named words (Some shape) = names_of shape words
+
+-- the words that name files, in their order
+abbrev pub file_words : List (List ℕ) → List (List ℕ)
+file_words words = named words (shape words)

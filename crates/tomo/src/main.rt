@@ -1,0 +1,68 @@
+//! Plans the measuring of link delays.
+#![tactic(auto)]
+
+mod gather;
+mod machine;
+mod narrow;
+mod refusal;
+mod run;
+mod status;
+mod table;
+#[cfg(test)]
+mod tests;
+mod work;
+mod write;
+
+use outside::{FileShelf, StdSink};
+use run::tomo;
+use status::{Status, fault_line};
+use std::env;
+use std::io::ErrorKind;
+use std::process::ExitCode;
+use tomo_base::{NoMemory, Words};
+
+// Why the words of the command line could not be had.
+enum NoWords {
+    NoMemory,
+    Unreadable,
+}
+
+impl From<NoMemory> for NoWords {
+    fn from(_e: NoMemory) -> NoWords {
+        NoWords::NoMemory
+    }
+}
+
+// The words after the program's name.
+fn words_of(rt: &(impl std::rt::Env + AllocGlobal)) -> Result<Words, NoWords> {
+    let args = match env::args(rt) {
+        Ok(args) => args,
+        Err(e) if e.kind() == ErrorKind::OutOfMemory => return Err(NoWords::NoMemory),
+        Err(_) => return Err(NoWords::Unreadable),
+    };
+    let mut words = Words::new(rt.alloc());
+    for word in args.skip(1) {
+        if words.len() == u32::MAX {
+            return Err(NoWords::NoMemory);
+        }
+        words.push(word.as_str())?;
+    }
+    Ok(words)
+}
+
+fn main(rt: HostRuntime) -> ExitCode {
+    let status = match words_of(&rt) {
+        Ok(words) => {
+            let mut shelf = FileShelf::new(rt.alloc(), &rt);
+            let mut sink = StdSink::new(&rt);
+            tomo(rt.alloc(), &words, &mut shelf, &mut sink)
+        }
+        Err(NoWords::NoMemory) => Status::NoMemory,
+        Err(NoWords::Unreadable) => Status::Usage,
+    };
+    let line = fault_line(&status);
+    if !line.is_empty() {
+        let _ = eprintln!(rt; "{line}");
+    }
+    ExitCode::from(status as u8)
+}

@@ -1,0 +1,59 @@
+// Refusals: one row that names what is refused, why, and where.
+ghost use Rattle.std.specs.Prelude.{◌≡◌, ◌≢◌, IfOk, decimal};
+ghost use Rattle.topology.specs.Topology.{names_of};
+ghost use Rattle.topology.specs.Faults.{examined, IsTopoFault};
+ghost use Rattle.tomo.specs.Refusals.{refused, topology_reason, topology_place};
+
+use itoa::Buffer;
+use rows::Rows;
+use std::alloc::Global;
+use tomo_base::NoMemory;
+use topology::{TopoFault, nth_name};
+
+/// The row that refuses a word for a reason, at a place.
+pub fn refuse(alloc: Global, word: &str, reason: &str, place: &str) -> Result<Rows, NoMemory>
+    ensures { IfOk result (λ rows. rows ≡ refused word.now reason.now place.now) }
+{
+    let mut rows = Rows::new(alloc);
+    rows.field(b"refused")?;
+    rows.field(word.as_bytes())?;
+    rows.field(reason.as_bytes())?;
+    rows.field(place.as_bytes())?;
+    rows.close()?;
+    Ok(rows)
+}
+
+/// The same with a number as the place.
+pub fn refuse_at(alloc: Global, word: &str, reason: &str, place: u64) -> Result<Rows, NoMemory>
+    ensures { IfOk result (λ rows. rows ≡ refused word.now reason.now (decimal place)) }
+{
+    let mut digits = Buffer::new();
+    refuse(alloc, word, reason, digits.format(place))
+}
+
+/// The row that refuses a topology.
+pub fn refuse_topology(
+    alloc: Global,
+    word: &str,
+    rows: &Rows,
+    header: bool,
+    fault: TopoFault,
+) -> Result<Rows, NoMemory>
+    requires { IsTopoFault header rows.now.closed fault }
+    ensures cause { IfOk result (λ refusal. fault ≢ TopoFault.NoMemory) }
+    ensures row { IfOk result (λ refusal. refusal ≡ refused word.now (topology_reason fault) (topology_place (names_of (examined header rows.now.closed)) fault)) }
+{
+    match fault {
+        TopoFault::NoMemory => Err(NoMemory),
+        TopoFault::Width(row) => refuse_at(alloc, word, "width", row as u64),
+        TopoFault::Name(row) => refuse_at(alloc, word, "name", row as u64),
+        TopoFault::Loop(row) => refuse_at(alloc, word, "loop", row as u64),
+        TopoFault::Nodes(row) => refuse_at(alloc, word, "nodes", row as u64),
+        TopoFault::Links(row) => refuse_at(alloc, word, "links", row as u64),
+        TopoFault::Few(nodes) => refuse_at(alloc, word, "few", nodes as u64),
+        TopoFault::Apart(node) => {
+            let name = nth_name(alloc, rows, header, node)?;
+            refuse(alloc, word, "apart", name.as_str())
+        }
+    }
+}

@@ -1,0 +1,102 @@
+// The table of commands: the words that each takes, and the shape of a command line.
+ghost use Rattle.std.specs.Prelude.{◌≡◌, ◌≤◌, ◌+◌, length, drop, Option};
+ghost use Rattle.tomo.specs.Table.{command_of, files_of, word_count, first_place, begins_option, no_options, shape, limit};
+
+use tomo_base::Words;
+
+/// What the program is asked to do.
+#[derive(Clone, Copy, Debug, PartialEq, Eq)]
+pub enum Command {
+    Plan,
+}
+
+/// What a file holds.
+#[derive(Clone, Copy, Debug, PartialEq, Eq)]
+pub enum Kind {
+    TopologyFile,
+}
+
+/// What the words say beside the names of files: the command, and whether the topology's first row is a header.
+#[derive(Clone, Copy, Debug, PartialEq, Eq)]
+pub struct Shape {
+    pub command: Command,
+    pub header: bool,
+}
+
+/// The most bytes that a file of a kind may have.
+pub fn limit_of(kind: Kind) -> u64
+    ensures { result ≡ limit kind }
+{
+    match kind {
+        Kind::TopologyFile => 4_194_304,
+    }
+}
+
+// The command that a word names.
+fn named_command(word: &str) -> Option<Command>
+    ensures { result ≡ command_of word.now }
+{
+    match word {
+        "plan" => Some(Command::Plan),
+        _ => None,
+    }
+}
+
+// How many words a command takes after its own word, and after the option.
+fn words_after(command: Command) -> u32
+    ensures { result ≡ word_count command }
+{
+    match command {
+        Command::Plan => 1,
+    }
+}
+
+// Whether a word begins with two dashes.
+fn is_option(word: &str) -> bool
+    ensures { result ≡ begins_option word.now }
+{
+    word.starts_with("--")
+}
+
+// Whether no word from a place on begins with two dashes.
+fn has_no_options(words: &Words, start: u32) -> bool
+    requires { start ≤ length words.now }
+    ensures { result ≡ no_options (drop start words.now) }
+{
+    for place in start..words.len() {
+        if is_option(words.at(place)) {
+            return false;
+        }
+    }
+    true
+}
+
+impl Shape {
+    /// The place of the first file among the words.
+    pub fn first(&self) -> u32
+        ensures { result ≡ first_place self.now.header }
+    {
+        if self.header { 2 } else { 1 }
+    }
+}
+
+/// The shape of the words, where they have one.
+pub fn shape_of(words: &Words) -> Option<Shape>
+    ensures { result ≡ shape words.now }
+{
+    if words.len() == 0 {
+        return None;
+    }
+    let command = named_command(words.at(0))?;
+    let header = words.len() > 1 && words.at(1) == "--header";
+    let shape = Shape { command, header };
+    let first = shape.first();
+    if first <= words.len()
+        && words.len() - first == words_after(command)
+        && has_no_options(words, first)
+    {
+        Some(shape)
+    } else {
+        None
+    }
+}

@@ -1,0 +1,132 @@
+// Runs over devices in memory.
+use crate::run::tomo;
+use crate::status::Status;
+use outside::{MemShelf, MemSink};
+use std::alloc::Global;
+use std::test::Fail;
+use tomo_base::Words;
+
+const TWO_LINKS: &[u8] = b"a,b\nb,c\n";
+
+const TWO_LINKS_PLAN: &[u8] =
+    b"plan,1\nnode,0,a\nnode,1,b\nnode,2,c\nlink,0,0,1\nlink,1,1,2\nmonitor,0\nmonitor,1\nmonitor,2\n\
+    pocket,0,1,0\npocket,1,1,1\npocket,2,1,2\npath,0,0 1\npath,1,1 2\nrecipe,0,2:0\nrecipe,1,2:1\nend\n";
+
+fn words_of(alloc: Global, words: &[&str]) -> Result<Words, Fail> {
+    let mut all = Words::new(alloc);
+    for &word in words {
+        all.push(word)?;
+    }
+    Ok(all)
+}
+
+// A run over one file with the name t: how it ends, and whether this is what it writes.
+fn run(
+    alloc: Global,
+    words: &[&str],
+    content: &[u8],
+    written: &[u8],
+) -> Result<(Status, bool), Fail> {
+    let mut shelf = MemShelf::new(alloc);
+    shelf.put("t", content)?;
+    let mut sink = MemSink::new(alloc, 1 << 20, 1000)?;
+    let status = tomo(alloc, &words_of(alloc, words)?, &mut shelf, &mut sink);
+    Ok((status, sink.bytes() == written))
+}
+
+// The rows of a chain of nodes, each linked to the next.
+fn chain(alloc: Global, links: u32) -> Result<String, Fail> {
+    let mut text = String::new(alloc);
+    for low in 0..links {
+        text.push_str(&format!(in alloc; "n{low},n{}\n", u64::from(low) + 1)?)?;
+    }
+    Ok(text)
+}
+
+#[test]
+fn chains_and_rings_are_planned(rt: HostRuntime) -> Result<(), Fail> {
+    let alloc = rt.alloc();
+    let plan = ["plan", "t"];
+    let done = (Status::Done, true);
+    assert_eq!(rt; run(alloc, &plan, TWO_LINKS, TWO_LINKS_PLAN)?, done);
+    assert_eq!(rt;
+        run(alloc, &plan, b"\"a\",b\r\nb,c,7\r\n", TWO_LINKS_PLAN)?,
+        done
+    );
+    let headed = ["plan", "--header", "t"];
+    assert_eq!(rt;
+        run(alloc, &headed, b"from,to\na,b\nb,c\n", TWO_LINKS_PLAN)?,
+        done
+    );
+    let ring = b"c,a\na,b\nb,c\n";
+    let ring_plan =
+        b"plan,1\nnode,0,c\nnode,1,a\nnode,2,b\nlink,0,0,1\nlink,1,1,2\nlink,2,0,2\nmonitor,0\nmonitor,1\nmonitor,2\n\
+        pocket,0,1,0\npocket,1,1,1\npocket,2,1,2\npath,0,0 1\npath,1,0 2\npath,2,1 2\nrecipe,0,2:0\nrecipe,1,2:2\nrecipe,2,2:1\nend\n";
+    assert_eq!(rt; run(alloc, &plan, ring, ring_plan)?, done);
+    let long = chain(alloc, 999)?;
+    assert_eq!(rt;
+        run(alloc, &plan, long.as_bytes(), b"")?,
+        (Status::Done, false)
+    );
+    Ok(())
+}
+
+#[test]
+fn other_topologies_are_refused(rt: HostRuntime) -> Result<(), Fail> {
+    let alloc = rt.alloc();
+    let plan = ["plan", "t"];
+    let refused = (Status::BadInput, true);
+    let long = chain(alloc, 1000)?;
+    let refusals: [(&[u8], &[u8]); 10] = [
+        (b"", b"refused,t,few,0\n"),
+        (b"a,b\n", b"refused,t,few,2\n"),
+        (b"a,b\nb\n", b"refused,t,width,2\n"),
+        (b"a,b\n ,c\n", b"refused,t,name,2\n"),
+        (b"a,b\nb,c\nc,c\n", b"refused,t,loop,3\n"),
+        (long.as_bytes(), b"refused,t,nodes,1000\n"),
+        (b"a,b\nc,d\n", b"refused,t,apart,c\n"),
+        (b"a,b\nc,\"d,e\"\na,c\na,\"d,e\"\n", b"refused,t,degree,a\n"),
+        (b"x,a\nx,b\nx,c\na,b\na,c\n", b"refused,t,degree,x\n"),
+        (b"a,b\nb,b\nc\n", b"refused,t,loop,2\n"),
+    ];
+    for (content, written) in refusals {
+        assert_eq!(rt; run(alloc, &plan, content, written)?, refused);
+    }
+    let too_long = vec![in alloc; b'x'; 4_194_305]?;
+    assert_eq!(rt;
+        run(alloc, &plan, &too_long, b"refused,t,long,4194304\n")?,
+        refused
+    );
+    Ok(())
+}
+
+#[test]
+fn faults_end_a_run(rt: HostRuntime) -> Result<(), Fail> {
+    let alloc = rt.alloc();
+    let shapeless: [&[&str]; 5] = [
+        &[],
+        &["plan"],
+        &["plot", "t"],
+        &["plan", "--heading", "t"],
+        &["plan", "t", "--header"],
+    ];
+    for words in shapeless {
+        assert_eq!(rt; run(alloc, words, TWO_LINKS, b"")?, (Status::Usage, true));
+    }
+    assert_eq!(rt;
+        run(alloc, &["plan", "u"], TWO_LINKS, b"")?,
+        (Status::ReadFault, true)
+    );
+
+    let mut shelf = MemShelf::new(alloc);
+    shelf.put("t", TWO_LINKS)?;
+    let mut sink = MemSink::new(alloc, 1000, 10)?;
+    sink.fail_at(2)?;
+    let words = words_of(alloc, &["plan", "t"])?;
+    assert_eq!(rt;
+        tomo(alloc, &words, &mut shelf, &mut sink),
+        Status::WriteFault
+    );
+    assert_eq!(rt; sink.bytes(), b"plan,1\nnod".as_slice());
+    Ok(())
+}

@@ -15,7 +15,9 @@ const TWO_LINKS_PLAN: &[u8] =
 fn words_of(alloc: Global, words: &[&str]) -> Result<Words, Fail> {
     let mut all = Words::new(alloc);
     for &word in words {
-        all.push(word)?;
+        if all.len() < 10 {
+            all.push(word)?;
+        }
     }
     Ok(all)
 }

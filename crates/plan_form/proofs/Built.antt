@@ -13,7 +13,7 @@ use Rattle.plan_form.specs.Building.{turned, sum_at, path_terms, renumbered, IsM
 use Rattle.plan_form.specs.Buildable.{IsShort, IsBuildable}
 use Rattle.plan_form.specs.Good.{EndsAscend, AreGoodPaths, IsGoodRecipe}
 use Rattle.plan_form.specs.Order.{path_cmp}
-use Rattle.plan_form.specs.Steps.{lists_of, number_in, AreNumbers}
+use Rattle.plan_form.specs.Steps.{lists_of, number_in, AreNumbers, AreOrdered}
 use Rattle.plan_form.proofs.Tallies.{sum_at-others, sum_at-place}
 use Rattle.plan_form.proofs.Merging.{weighted_by, merged_weight}
 use Rattle.plan_form.proofs.Turning.{uses_turned, path_turned, turned_ascends}
@@ -57,13 +57,6 @@ recipe_kept links i pool paths number old new names in_old in_new sums recipe = 
     settle ng ng' nl nl' og og' ol ol' rg rl c a b e f h u d w = omega (arith, a, b, e, f, h, u, d, w)
 
 -- ---- from the steps to the whole
-
--- the paths in order, and the numbers of the pool's paths among them
-pub record AreOrdered (pool paths : List (List ℕ)) (numbers : List ℕ) : Type 0 where
-  pub ascending : IsStrictlySortedBy path_cmp paths
-  pub kept : (q : List ℕ) → Contains (map turned pool) q → Contains paths q
-  pub given : (q : List ℕ) → Contains paths q → Contains (map turned pool) q
-  pub numbered : AreNumbers pool paths numbers
 
 -- as the steps tell it
 pub ordered : (pool : List (List ℕ)) (before after : List (Vec ℕ Global)) (paths : List (List ℕ)) (numbers : List ℕ) → lists_of before ≡ map turned pool → paths ≡ lists_of after → IsStrictlySortedBy path_cmp (lists_of after)

@@ -1,7 +1,7 @@
 -- Tallies: the sums of coefficients that a list of terms has, path by path.
 use Rattle.std.proofs.Common.{◌≡◌, ◌≢◌, ℕ, zero, suc, ◌+◌, ◌*◌, ◌<◌, ◌≤◌, ◌⊎◌, ◌==◌, cond, not, Bool, false, true, List, [], ◌∷◌, ◌++◌, map, length, take, drop, set, get_or, filter, ℤ, pos, negsuc, ◌+ℤ◌, refl, sym, ap, ◌∙◌, subst, inl, inr, arith, All, AllPairs, HoldsAt, Result, Ok, Err, OnOk, is_err, length-append, ◌^◌, true≢false, take-append-drop}
 use Rattle.std.specs.List.{insert, AllWithin}
-use Rattle.std.proofs.lemmas.Bool.{cases_Bool, cases_eq, cases_order, eq-eqb, ne_eqb, eqb-true}
+use Rattle.std.proofs.lemmas.Bool.{cases_Bool, cases_eq, eq-eqb, ne_eqb}
 use Rattle.std.proofs.lemmas.Int.{ints}
 use Rattle.std.proofs.lemmas.List.{map_more, take_more, map-append, length-map, get_or-map, get_or_default, append-nil, get_or_append_left, get_or_push}
 use Rattle.std.proofs.lemmas.List.Elements.{All-head, All-tail, All-cons, filter-append}

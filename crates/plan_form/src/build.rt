@@ -6,9 +6,8 @@ ghost use Rattle.plan_form.specs.Building.{IsBuilt, path_terms};
 ghost use Rattle.plan_form.specs.Buildable.{IsBuildable, as_part};
 ghost use Rattle.plan_form.specs.Good.{AreGoodPaths, IsGoodRecipe};
 
-use crate::copies::{copy_names, copy_paths, copy_pockets};
-use crate::directions::turn_all;
-use crate::order::{number_all, sort_paths};
+use crate::copies::{copy_names, copy_pockets};
+use crate::order::order_paths;
 use crate::plan::Plan;
 use crate::sums::rewrite_all;
 use simple_path::{PathPool, Recipes};
@@ -41,16 +40,15 @@ impl Plan {
             IsRecipe t.now.graph.links i (path_terms pool.now (slice_index_or recipes.now i [])) →
             IsGoodRecipe t.now.graph p.paths i (slice_index_or p.recipes i [])) }
     {
-        let mut sorted = turn_all(alloc, pool)?;
-        sort_paths(&mut sorted);
-        let numbers = number_all(alloc, &sorted, pool)?;
+        let ordered = order_paths(alloc, pool)?;
+        let recipes = rewrite_all(alloc, recipes, &ordered.numbers)?;
         Ok(Plan {
             names: copy_names(alloc, t)?,
             links: t.graph().links().to_vec(alloc)?,
             monitors: m.as_slice().to_vec(alloc)?,
             pockets: copy_pockets(alloc, pockets)?,
-            paths: copy_paths(alloc, &sorted)?,
-            recipes: rewrite_all(alloc, recipes, &numbers)?,
+            paths: ordered.paths,
+            recipes,
         })
     }
 }

@@ -4,15 +4,23 @@ ghost use Rattle.std.specs.List.Sorted.{IsStrictlySortedBy};
 ghost use Rattle.simple_path.specs.Pools.{nodes_in};
 ghost use Rattle.plan_form.specs.Building.{turned};
 ghost use Rattle.plan_form.specs.Order.{path_cmp};
-ghost use Rattle.plan_form.specs.Steps.{lists_of, IsNumberOf, AreNumbers};
+ghost use Rattle.plan_form.specs.Steps.{lists_of, IsNumberOf, AreNumbers, AreOrdered};
 
-use crate::directions::turn;
+use crate::copies::copy_paths;
+use crate::directions::{turn, turn_all};
 use simple_path::PathPool;
 use std::alloc::Global;
 use tomo_base::NoMemory;
 
+// Paths in order, and the number of each path of a pool among them.
+#[derive(Drop)]
+pub struct Ordered {
+    pub paths: PathPool,
+    pub numbers: Vec<u32>,
+}
+
 // Sorts paths in lexicographic order and keeps equal ones once.
-pub fn sort_paths(paths: &mut Vec<Vec<u32>>)
+fn sort_paths(paths: &mut Vec<Vec<u32>>)
     ensures ascending { IsStrictlySortedBy path_cmp (lists_of paths.new.items) }
     ensures kept { (q : List ℕ) → Contains (lists_of paths.old.items) q → Contains (lists_of paths.new.items) q }
     ensures given { (q : List ℕ) → Contains (lists_of paths.new.items) q → Contains (lists_of paths.old.items) q }
@@ -37,7 +45,7 @@ fn number_of(alloc: Global, paths: &[Vec<u32>], path: &[u32]) -> Result<u32, NoM
 }
 
 // The number of each path of the pool among the paths in order.
-pub fn number_all(alloc: Global, paths: &[Vec<u32>], pool: &PathPool) -> Result<Vec<u32>, NoMemory>
+fn number_all(alloc: Global, paths: &[Vec<u32>], pool: &PathPool) -> Result<Vec<u32>, NoMemory>
     requires ascending { IsStrictlySortedBy path_cmp (lists_of paths.now) }
     requires few { length paths.now < 2 ^ 32 }
     requires members { (q : List ℕ) → Contains (map turned pool.now) q → Contains (lists_of paths.now) q }
@@ -48,4 +56,17 @@ pub fn number_all(alloc: Global, paths: &[Vec<u32>], pool: &PathPool) -> Result<
         numbers.push(number_of(alloc, paths, pool.path(i))?)?;
     }
     Ok(numbers)
+}
+
+// The paths of the pool, turned, in lexicographic order and each once.
+pub fn order_paths(alloc: Global, pool: &PathPool) -> Result<Ordered, NoMemory>
+    ensures ordered { IfOk result (λ o. AreOrdered pool.now o.paths o.numbers.items) }
+    ensures count { IfOk result (λ o. length o.paths ≤ length pool.now) }
+    ensures few { IfOk result (λ o. length o.paths < 2 ^ 31) }
+{
+    let mut sorted = turn_all(alloc, pool)?;
+    sort_paths(&mut sorted);
+    let numbers = number_all(alloc, &sorted, pool)?;
+    let paths = copy_paths(alloc, &sorted)?;
+    Ok(Ordered { paths, numbers })
 }

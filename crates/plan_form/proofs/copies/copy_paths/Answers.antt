@@ -1,5 +1,4 @@
-use Rattle.std.proofs.Common.{arith, ap, length}
-use Rattle.simple_path.specs.Pools.{nodes_in}
+use Rattle.std.proofs.Common.{arith}
 use Rattle.plan_form.proofs.Copying.{nodes_in-next}
 use Rattle.plan_form.proofs.copies.copy_paths.Goals as goal
 

@@ -1,6 +1,4 @@
-use Rattle.std.proofs.Common.{◌≡◌, subst, Contains}
 use Rattle.plan_form.proofs.Sorting.{search_finds, search_number}
-use Rattle.plan_form.specs.Steps.{lists_of}
 use Rattle.plan_form.proofs.order.number_of.Goals as goal
 
 pub unreachable-requires : goal.unreachable-requires

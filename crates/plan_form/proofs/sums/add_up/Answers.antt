@@ -1,5 +1,4 @@
 use Rattle.std.proofs.Common.{arith}
-use Rattle.std.specs.Global.{Global}
 use Rattle.plan_form.specs.Steps.{number_in}
 use Rattle.plan_form.proofs.Tallies.{tallied_none, tallied_more, tallied_room, tallies_ascend}
 use Rattle.plan_form.proofs.sums.add_up.Goals as goal

@@ -10,12 +10,7 @@ use std::alloc::Global;
 use tomo_base::NoMemory;
 
 /// The name of the node with a number, in rows of which none has a fault; so that a node that is apart can be named.
-pub fn nth_name(
-    alloc: Global,
-    rows: &Rows,
-    header: bool,
-    node: u32,
-) -> Result<String, NoMemory>
+pub fn nth_name(alloc: Global, rows: &Rows, header: bool, node: u32) -> Result<String, NoMemory>
     requires fine { AllFine header rows.now.closed (length rows.now.closed) }
     requires node { node < length (names_of (examined header rows.now.closed)) }
     ensures { IfOk result (λ name. string_bytes name ≡ slice_index_or (names_of (examined header rows.now.closed)) node []) }

@@ -1,6 +1,8 @@
 //! Plans the measuring of link delays.
 #![tactic(auto)]
 
+ghost use Rattle.std.specs.Prelude.{◌≡◌};
+
 mod gather;
 mod machine;
 mod narrow;
@@ -28,6 +30,10 @@ enum NoWords {
 }
 
 impl From<NoMemory> for NoWords {
+    ghost use Rattle.tomo.specs.declared.NoWords.TheVariants.{NoMemory};
+
+    ghost from_gives = { λ _ e. e ≡ NoMemory };
+
     fn from(_e: NoMemory) -> NoWords {
         NoWords::NoMemory
     }

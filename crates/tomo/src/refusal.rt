@@ -45,12 +45,12 @@ pub fn refuse_topology(
 {
     match fault {
         TopoFault::NoMemory => Err(NoMemory),
-        TopoFault::Width(row) => refuse_at(alloc, word, "width", row as u64),
-        TopoFault::Name(row) => refuse_at(alloc, word, "name", row as u64),
-        TopoFault::Loop(row) => refuse_at(alloc, word, "loop", row as u64),
-        TopoFault::Nodes(row) => refuse_at(alloc, word, "nodes", row as u64),
-        TopoFault::Links(row) => refuse_at(alloc, word, "links", row as u64),
-        TopoFault::Few(nodes) => refuse_at(alloc, word, "few", nodes as u64),
+        TopoFault::Width(row) => refuse_at(alloc, word, "width", u64::from(row)),
+        TopoFault::Name(row) => refuse_at(alloc, word, "name", u64::from(row)),
+        TopoFault::Loop(row) => refuse_at(alloc, word, "loop", u64::from(row)),
+        TopoFault::Nodes(row) => refuse_at(alloc, word, "nodes", u64::from(row)),
+        TopoFault::Links(row) => refuse_at(alloc, word, "links", u64::from(row)),
+        TopoFault::Few(nodes) => refuse_at(alloc, word, "few", u64::from(nodes)),
         TopoFault::Apart(node) => {
             let name = nth_name(alloc, rows, header, node)?;
             refuse(alloc, word, "apart", name.as_str())

@@ -30,6 +30,7 @@ unfolding weighted_by
 renumbered_weight w f g number [] same = refl
 renumbered_weight w f g number (t ∷ ts) same = ap₂ (λ a b. w t.coef * a + b) (All-head (λ (t : Term). f (number t.path) ≡ g t.path) t ts same) (renumbered_weight w f g number ts (All-tail (λ (t : Term). f (number t.path) ≡ g t.path) t ts same))
 
+-- renumbered terms name paths below the bound of the numbers
 renumbered_within : (number : ℕ → ℕ) (n : ℕ) (ts : List Term) → All (λ t. number t.path < n) ts → All (λ t. t.path < n) (renumbered number ts)
 renumbered_within number n [] all k d lt = absurd (omega (arith, lt))
 renumbered_within number n (t ∷ ts) all zero d lt = All-head (λ (t : Term). number t.path < n) t ts all

@@ -8,21 +8,21 @@ use Rattle.tomo_base.specs.Network.{Network, AreLinks, IsGraph}
 use Rattle.tomo_base.specs.Walks.{StepsFrom}
 use Rattle.tomo_base.specs.Identify.{IsMonitorPath}
 use Rattle.tomo_base.proofs.Links.{linked_below}
-use Rattle.topology.specs.Names.{is_name as topology_name}
+use Rattle.topology.specs.Names.{is_name}
 use Rattle.topology.specs.Topology.{Topo, IsTopology}
 use Rattle.simple_path.specs.declared.recipe.Term.{Term}
 use Rattle.plan_form.specs.declared.plan.HeldPocket.{HeldPocket}
 use Rattle.plan_form.specs.Building.{IsBuilt}
 use Rattle.plan_form.specs.Buildable.{IsBuildable, IsShort, as_part}
 use Rattle.plan_form.specs.Held.{part_of}
-use Rattle.plan_form.specs.Parts.{PlanPocket, IsSmall, IsNodeList, IsTermList, is_name}
+use Rattle.plan_form.specs.Parts.{PlanPocket, IsSmall, IsNodeList, IsTermList}
 use Rattle.plan_form.proofs.Built.{rewritten_within}
 
 -- the names of a topology
 pub names_formed : (t : Topo) → IsTopology t → All (λ n. IsTrue (is_name n)) t.names
-unfolding topology_name
 names_formed t is = is.named
 
+-- the ends of links of few nodes are small
 links_below : (n : ℕ) (links : List Link) → n ≤ 1000 → AreLinks n links → All (λ l. IsSmall l.a × IsSmall l.b) links
 links_below n [] few are = λ k d l. absurd (omega (arith, l))
 links_below n (link ∷ links) few are = All-cons (λ (l : Link). IsSmall l.a × IsSmall l.b) link links (omega (arith, are.0, are.1, few), omega (arith, are.1, few)) (links_below n links few are.3)
@@ -39,10 +39,12 @@ pockets_formed held given small same filled k d l =
     let some = subst (All (λ (p : PlanPocket). 0 < length p.nodes)) (sym same) (All-map (λ (p : PlanPocket). 0 < length p.nodes) as_part given filled) k d l in
     (numbers.0, (some, numbers.1))
 
+-- each step of a walk leads to a node
 steps_below : (g : Network) (a : ℕ) (p : List ℕ) → IsGraph g → StepsFrom g a p → All (λ v. v < g.nodes) p
 steps_below g a [] graph steps = λ k d l. absurd (omega (arith, l))
 steps_below g a (b ∷ p) graph steps = All-cons (λ v. v < g.nodes) b p (linked_below g.nodes g.links a b graph steps.0).1 (steps_below g b p graph steps.1)
 
+-- each entry of a monitor path is a node
 nodes_below : (g : Network) (m : ℕ → Bool) (p : List ℕ) → IsGraph g → IsMonitorPath g m p → All (λ v. v < g.nodes) p
 nodes_below g m [] graph path = λ k d l. absurd (omega (arith, l))
 nodes_below g m (a ∷ []) graph path = absurd (omega (arith, path.two))

@@ -22,6 +22,7 @@ unfoldable weight_at : (ℤ → ℕ) → List Term → ℕ → ℕ
 weight_at w [] k = 0
 weight_at w (t ∷ ts) k = cond (t.path == k) (w t.coef) 0 + weight_at w ts k
 
+-- a sum of nothing
 none_below : (f : ℕ → ℕ) (n : ℕ) → sum_below n (λ k. 0 * f k) ≡ 0
 unfolding sum_below
 none_below f zero = refl
@@ -33,6 +34,7 @@ unfolding sum_below
 past_below f h x j zero le = refl
 past_below f h x j (suc n) le = rw (ne_eqb j n (λ e. absurd (omega (arith, e, le)))) (omega (arith, past_below f h x j n (omega (arith, le))))
 
+-- a sum with more at one place
 one_below : (f h : ℕ → ℕ) (x j n : ℕ) → j < n → sum_below n (λ k. (cond (j == k) x 0 + h k) * f k) ≡ x * f j + sum_below n (λ k. h k * f k)
 unfolding sum_below
 one_below f h x j zero lt = absurd (omega (arith, lt))
@@ -57,15 +59,18 @@ gained : (z : ℤ) → z +ℤ pos (loss_of z) ≡ pos (gain_of z)
 gained (pos n) = omega (arith, ints)
 gained (negsuc n) = omega (arith, ints)
 
+-- a sum of coefficients is what is gained less what is lost
 sum_is : (ts : List Term) (k : ℕ) → sum_at ts k +ℤ pos (weight_at loss_of ts k) ≡ pos (weight_at gain_of ts k)
 unfolding sum_at weight_at
 sum_is [] k = refl
 sum_is (t ∷ ts) k = elim (cases_Bool (t.path == k))
     [ inl e ↦ rw e (omega (arith, ints, gained t.coef, sum_is ts k)) | inr e ↦ rw e (omega (arith, ints, sum_is ts k)) ]
 
+-- equal sums are balanced at each number
 balanced_at : (old new : List Term) (k : ℕ) → sum_at new k ≡ sum_at old k → weight_at gain_of new k + weight_at loss_of old k ≡ weight_at loss_of new k + weight_at gain_of old k
 balanced_at old new k e = omega (arith, ints, sum_is old k, sum_is new k, e)
 
+-- so in a weighted sum over all numbers
 balanced_below : (f a b c d : ℕ → ℕ) → ((k : ℕ) → a k + b k ≡ c k + d k) → (n : ℕ) → sum_below n (λ k. a k * f k) + sum_below n (λ k. b k * f k) ≡ sum_below n (λ k. c k * f k) + sum_below n (λ k. d k * f k)
 unfolding sum_below
 balanced_below f a b c d h zero = refl

@@ -29,6 +29,7 @@ dedup_more f E x [] = refl
 dedup_more f E x (y ∷ ys) = elim (cases_Bool (E (f y) (f x)))
     [ inl e ↦ rw e (dedup_more f E x ys) | inr e ↦ rw e (ap (λ t. f x ∷ t) (dedup_more f E y ys)) ]
 
+-- leaving out repeats of vectors leaves out repeats of lists
 pub dedup-map : {X Y : Type 0} (f : X → Y) (E : Y → Y → Bool) (xs : List X) → map f (dedup (λ a b. E (f a) (f b)) xs) ≡ dedup E (map f xs)
 dedup-map f E [] = refl
 dedup-map f E (x ∷ xs) = dedup_more f E x xs

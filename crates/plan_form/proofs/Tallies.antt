@@ -6,6 +6,7 @@ use Rattle.std.proofs.lemmas.Int.{ints}
 use Rattle.std.proofs.lemmas.List.{map_more, take_more, map-append, length-map, get_or-map, get_or_default, append-nil, get_or_append_left, get_or_push}
 use Rattle.std.proofs.lemmas.List.Elements.{All-head, All-tail, All-cons, filter-append}
 use Rattle.std.proofs.lemmas.List.Kept.{AllPairs-filter, AllPairs-cons}
+use Rattle.std.specs.List.Sorted.{IsNonDecreasingBy}
 use Rattle.tomo_base.proofs.Rows.{AllPairs-head, AllPairs-tail, AllPairs-insert}
 use Rattle.simple_path.specs.declared.recipe.Term.{Term}
 use Rattle.plan_form.specs.declared.sums.Tally.{Tally}
@@ -65,6 +66,13 @@ sum_at-insert (x ∷ xs) (suc p) y k = omega (arith, ints, sum_at-insert xs p y 
 -- the paths of tallies ascend
 abbrev pub Ascend : List Tally → Type 0
 Ascend xs = AllPairs (λ s t. s.path < t.path) xs
+
+-- so they never fall
+pub never_falls : (xs : List Tally) → Ascend xs → IsNonDecreasingBy (λ s. s.path) xs
+never_falls xs up i j d le l = elim (cases_eq i j) [
+  | inl same ↦ subst (λ k. (get_or xs i d).path ≤ (get_or xs k d).path) same (omega arith)
+  | inr ne ↦ omega (arith, up i j d (omega (arith, le, ne)) l)
+]
 
 -- those of the terms do too
 pub terms_ascend : (xs : List Tally) → Ascend xs → AllPairs (λ t u. t.path < u.path) (map term_of xs)
@@ -170,6 +178,7 @@ tallied_none number terms = record {
   small = λ k. (omega (arith, ints), omega (arith, ints));
 }
 
+-- one term more, renumbered
 renumbered-push : (number : ℕ → ℕ) (ts : List Term) (t : Term) → renumbered number (ts ++ t ∷ []) ≡ renumbered number ts ++ record { coef = t.coef; path = number t.path } ∷ []
 renumbered-push number [] t = refl
 renumbered-push number (u ∷ ts) t = ap (λ rest. record { coef = u.coef; path = number u.path } ∷ rest) (renumbered-push number ts t)
@@ -217,9 +226,11 @@ kept_some xs i d l some = rw (map_more term_of xs i d l, filter-append (λ (t : 
     is_some_from (pos (suc n)) ne = rw (ne_eqb (suc n) 0 (λ e. absurd (omega (arith, e)))) refl
     is_some_from (negsuc n) ne = refl
 
+-- one term more that is not kept
 pub kept_none : (xs : List Tally) (i : ℕ) (d : Tally) → i < length xs → (get_or xs i d).sum ≡ pos 0 → kept (map term_of (take (i + 1) xs)) ≡ kept (map term_of (take i xs))
 kept_none xs i d l none = rw (map_more term_of xs i d l, filter-append (λ (t : Term). is_some t.coef) (map term_of (take i xs)) (term_of (get_or xs i d) ∷ []), none) (append-nil (kept (map term_of (take i xs))))
 
+-- what is kept has the same sums
 sum_at-kept : (ts : List Term) (k : ℕ) → sum_at (kept ts) k ≡ sum_at ts k
 unfolding sum_at
 sum_at-kept [] k = refl
@@ -233,6 +244,7 @@ sum_at-kept (t ∷ ts) k = elim (cases_Bool (is_some t.coef)) [
     no_coefficient (pos (suc n)) e = absurd (true≢false (sym (rw (ne_eqb (suc n) 0 (λ e. absurd (omega (arith, e)))) refl) ∙ e))
     no_coefficient (negsuc n) e = absurd (true≢false e)
 
+-- no coefficient that is kept is 0
 some_kept : (ts : List Term) → All (λ t. t.coef ≢ pos 0) (kept ts)
 some_kept [] = λ k d l. absurd (omega (arith, l))
 some_kept (t ∷ ts) = elim (cases_Bool (is_some t.coef)) [

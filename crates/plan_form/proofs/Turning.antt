@@ -20,23 +20,28 @@ abbrev pub back : List ℕ → List ℕ
 back [] = []
 back (a ∷ p) = back p ++ a ∷ []
 
+-- it is the reverse of std
 pub back_is : (p : List ℕ) → back p ≡ reverse p
 back_is [] = refl
 back_is (a ∷ p) = ap (λ t. t ++ a ∷ []) (back_is p) ∙ sym (reverse-append (a ∷ []) p)
 
+-- the last node after one more
 pub end_push : (d : ℕ) (xs : List ℕ) (y : ℕ) → end_of d (xs ++ y ∷ []) ≡ y
 end_push d [] y = refl
 end_push d (x ∷ xs) y = end_push x xs y
 
+-- a sum over one step more
 sum_from-push : (f : ℕ → ℕ → ℕ) (a : ℕ) (xs : List ℕ) (y : ℕ) → sum_from f a (xs ++ y ∷ []) ≡ sum_from f a xs + f (end_of a xs) y
 unfolding sum_from
 sum_from-push f a [] y = omega arith
 sum_from-push f a (x ∷ xs) y = omega (arith, sum_from-push f x xs y)
 
+-- so along a path
 sum_over-push : (f : ℕ → ℕ → ℕ) (xs : List ℕ) (y : ℕ) → 0 < length xs → sum_over f (xs ++ y ∷ []) ≡ sum_over f xs + f (end_of y xs) y
 sum_over-push f [] y some = absurd (omega (arith, some))
 sum_over-push f (x ∷ xs) y some = sum_from-push f x xs y
 
+-- a list with one item more has an item
 some_push : (xs : List ℕ) (y : ℕ) → 0 < length (xs ++ y ∷ [])
 some_push xs y = omega (arith, length-append xs (y ∷ []))
 
@@ -49,6 +54,7 @@ sum_over-back f comm (a ∷ b ∷ q) =
     sum_over-push f (back q ++ b ∷ []) a (some_push (back q) b)
     ∙ rw (sum_over-back f comm (b ∷ q), end_push a (back q) b, comm b a) (omega arith)
 
+-- a path and its reverse run over a link equally often
 pub uses_back : (l : Link) (p : List ℕ) → uses_of l (back p) ≡ uses_of l p
 unfolding uses_of
 uses_back l p = sum_over-back (λ a b. one_if (joins l a b)) (λ x y. ap one_if (joins_comm l x y)) p
@@ -58,9 +64,11 @@ pub turned_keeps : {A : Type 0} (f : List ℕ → A) → ((p : List ℕ) → f (
 turned_keeps f same [] = refl
 turned_keeps f same (a ∷ p) = elim (cases_Bool (nat_lt (end_of a p) a)) [ inl e ↦ rw (e, ← back_is (a ∷ p)) (same (a ∷ p)) | inr e ↦ rw e refl ]
 
+-- so does the path turned
 pub uses_turned : (l : Link) (p : List ℕ) → uses_of l (turned p) ≡ uses_of l p
 uses_turned l = turned_keeps (uses_of l) (uses_back l)
 
+-- they have the same nodes
 pub has_back : (p : List ℕ) (v : ℕ) → has (back p) v ≡ has p v
 unfolding has
 has_back [] v = refl
@@ -69,6 +77,7 @@ has_back (x ∷ p) v = has-append (back p) (x ∷ []) v ∙ rw (has_back p v) (s
     swap : (a b : Bool) → (b || (a || false)) ≡ (a || b)
     swap a b = grind arith
 
+-- one node more that is new
 none_push : (xs : List ℕ) (y : ℕ) → NoneTwice xs → has xs y ≡ false → NoneTwice (xs ++ y ∷ [])
 unfolding has
 none_push [] y once out = (refl, tt)
@@ -79,18 +88,22 @@ none_push (x ∷ xs) y once out =
     other : (x y : ℕ) → (x == y) ≡ false → ((y == x) || false) ≡ false
     other x y e = grind (arith, nat_tests)
 
+-- the reverse visits no node twice either
 pub none_back : (p : List ℕ) → NoneTwice p → NoneTwice (back p)
 none_back [] once = tt
 none_back (x ∷ p) once = none_push (back p) x (none_back p once.1) (has_back p x ∙ once.0)
 
+-- one step more of a walk
 steps_push : (g : Network) (a : ℕ) (xs : List ℕ) (y : ℕ) → StepsFrom g a xs → IsTrue (linked g (end_of a xs) y) → StepsFrom g a (xs ++ y ∷ [])
 steps_push g a [] y steps last = (last, tt)
 steps_push g a (x ∷ xs) y steps last = (steps.0, steps_push g x xs y steps.1 last)
 
+-- so of a path
 walk_push : (g : Network) (xs : List ℕ) (y : ℕ) → 0 < length xs → IsWalk g xs → IsTrue (linked g (end_of y xs) y) → IsWalk g (xs ++ y ∷ [])
 walk_push g [] y some walk last = absurd (omega (arith, some))
 walk_push g (x ∷ xs) y some walk last = steps_push g x xs y walk last
 
+-- the reverse of a walk is a walk
 pub walk_back : (g : Network) (p : List ℕ) → IsWalk g p → IsWalk g (back p)
 walk_back g [] walk = tt
 walk_back g (a ∷ []) walk = tt
@@ -108,6 +121,7 @@ head_default : (d e : ℕ) (xs : List ℕ) → 0 < length xs → head_of d xs �
 head_default d e [] some = absurd (omega (arith, some))
 head_default d e (x ∷ xs) some = refl
 
+-- the first of two lists
 head_append : (d : ℕ) (xs ys : List ℕ) → 0 < length xs → head_of d (xs ++ ys) ≡ head_of d xs
 head_append d [] ys some = absurd (omega (arith, some))
 head_append d (x ∷ xs) ys some = refl
@@ -117,15 +131,18 @@ pub head_back : (a : ℕ) (p : List ℕ) → head_of a (back (a ∷ p)) ≡ end_
 head_back a [] = refl
 head_back a (b ∷ q) = head_append a (back q ++ b ∷ []) (a ∷ []) (some_push (back q) b) ∙ (head_default a b (back q ++ b ∷ []) (some_push (back q) b) ∙ head_back b q)
 
+-- ends in the set, from the first and the last node
 ends_from : (q : ℕ → Bool) (d : ℕ) (p : List ℕ) → 0 < length p → IsTrue (q (head_of d p)) → IsTrue (q (end_of d p)) → EndsIn q p
 ends_from q d [] some first last = absurd (omega (arith, some))
 ends_from q d (a ∷ p) some first last = (first, last)
 
+-- the ends of the reverse are in the set too
 ends_back : (q : ℕ → Bool) (p : List ℕ) → EndsIn q p → EndsIn q (back p)
 ends_back q [] ends = ends
 ends_back q (a ∷ p) ends = ends_from q a (back (a ∷ p)) (some_push (back p) a)
     (subst (λ x. IsTrue (q x)) (sym (head_back a p)) ends.1) (subst (λ x. IsTrue (q x)) (sym (end_push a (back p) a)) ends.0)
 
+-- the reverse of a monitor path is one
 pub path_back : (g : Network) (m : ℕ → Bool) (p : List ℕ) → IsMonitorPath g m p → IsMonitorPath g m (back p)
 path_back g m p h = record {
   two = subst (λ n. 2 ≤ n) (sym (ap (length {A = ℕ}) (back_is p) ∙ length-reverse p)) h.two;
@@ -139,6 +156,7 @@ pub path_turned : (g : Network) (m : ℕ → Bool) (p : List ℕ) → IsMonitorP
 path_turned g m [] h = h
 path_turned g m (a ∷ p) h = elim (cases_Bool (nat_lt (end_of a p) a)) [ inl e ↦ rw (e, ← back_is (a ∷ p)) (path_back g m (a ∷ p) h) | inr e ↦ rw e h ]
 
+-- the ends of a path of two nodes or more differ
 ends_apart : (a : ℕ) (p : List ℕ) → 0 < length p → has p a ≡ false → (a ≡ end_of a p) → ⊥
 unfolding has
 ends_apart a [] some out e = absurd (omega (arith, some))
@@ -175,6 +193,7 @@ end_at a (b ∷ p) d = end_at b p d
 
 -- ---- how many nodes
 
+-- as long as the path
 length-back : (p : List ℕ) → length (back p) ≡ length p
 length-back p = ap (length {A = ℕ}) (back_is p) ∙ length-reverse p
 
@@ -185,6 +204,7 @@ nodes_in-turned (p ∷ ps) = omega (arith, turned_keeps (length {A = ℕ}) lengt
 
 -- ---- the ends, read by their places
 
+-- the last entry is the end
 ends_at : (a : ℕ) (p : List ℕ) (last : ℕ) → last ≡ get_or (a ∷ p) (length (a ∷ p) - 1) last → last ≡ end_of a p
 ends_at a p last is =
     let place : length (a ∷ p) - 1 ≡ length p = omega arith in

@@ -1,7 +1,7 @@
 -- The parts of a plan, and which of them can be spelled.
-use Rattle.std.specs.Prelude.{ℕ, ◌^◌, ◌<◌, ◌≤◌, nat_le, Bool, ◌&&◌, List, length, ℤ, pos, negsuc, All, IsTrue}
-use Rattle.std.specs.Str.{is_utf8}
+use Rattle.std.specs.Prelude.{ℕ, ◌^◌, ◌<◌, ◌≤◌, List, length, ℤ, pos, negsuc, All, IsTrue}
 use Rattle.tomo_base.specs.declared.graph.Link.{Link}
+use Rattle.topology.specs.Names.{is_name}
 use Rattle.simple_path.specs.declared.recipe.Term.{Term}
 
 -- a pocket as it stands in a plan: its need, and its nodes
@@ -21,10 +21,6 @@ pub record PlanParts : Type 0 where
 -- a number of 32 bits
 abbrev pub IsSmall : ℕ → Type 0
 IsSmall n = n < 2 ^ 32
-
--- a name has 1 to 64 bytes of UTF-8
-abbrev pub is_name : List ℕ → Bool
-is_name bytes = nat_le 1 (length bytes) && nat_le (length bytes) 64 && is_utf8 bytes
 
 -- one or more nodes
 abbrev pub IsNodeList : List ℕ → Type 0

@@ -1,5 +1,5 @@
 // A plan and its parts.
-ghost use Rattle.std.specs.Prelude.{◌≡◌, ◌<◌, ◌^◌, [], length, slice_get, Some, IfOk};
+ghost use Rattle.std.specs.Prelude.{◌≡◌, ◌<◌, length, slice_get, Some};
 ghost use Rattle.plan_form.specs.Parts.{PlanPocket, IsWellFormed};
 
 use simple_path::{PathPool, Recipes};

@@ -19,16 +19,12 @@ pub struct Tally {
 
 // Where the path stands in the list, or has to stand.
 fn place_of(tallies: &[Tally], path: u32) -> usize
+    requires { AllPairs (λ s t. s.path < t.path) tallies.now }
     ensures within { result ≤ length tallies.now }
     ensures below { AllWithin (λ s. s.path < path) tallies.now 0 result }
     ensures here { result < length tallies.now → HoldsAt (λ s. path ≤ s.path) tallies.now result }
 {
-    for (i, tally) in tallies.iter().enumerate() {
-        if tally.path >= path {
-            return i;
-        }
-    }
-    tallies.len()
+    tallies.partition_point(|tally| tally.path < path)
 }
 
 // The tally of one term.

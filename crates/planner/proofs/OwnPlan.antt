@@ -21,10 +21,10 @@ use Rattle.plan_form.specs.PlanRows.{row_count}
 use Rattle.plan_form.specs.Building.{path_terms, IsBuilt}
 use Rattle.plan_form.specs.Buildable.{as_part}
 use Rattle.plan_form.specs.Good.{AreGoodPaths, AreGoodPockets, AreGoodRecipes, IsGoodRecipe, pocket_sets}
-use Rattle.planner.specs.Narrow.{IsNarrow, AreSingles}
+use Rattle.planner.specs.Narrow.{IsNarrow}
 use Rattle.planner.specs.Planned.{IsPlanned}
 use Rattle.planner.specs.Direct.{link_path, twice, node_pocket, AreAllBelow, AreNodePockets}
-use Rattle.planner.proofs.Singles.{all_nodes, lowest_narrow, shows_narrow, monitors_identify}
+use Rattle.planner.proofs.Singles.{AreSingles, all_nodes, lowest_narrow, shows_narrow, monitors_identify}
 use Rattle.planner.proofs.OwnPaths.{link_recipe}
 
 -- terms over paths of a list have these paths
@@ -44,6 +44,7 @@ sets_at [] k d e l = absurd (omega (arith, l))
 sets_at (p ∷ ps) zero d e l = refl
 sets_at (p ∷ ps) (suc k) d e l = sets_at ps k d e (omega (arith, l))
 
+-- as many sets as pockets
 length-sets : (ps : List PlanPocket) → length (pocket_sets ps) ≡ length ps
 length-sets [] = refl
 length-sets (p ∷ ps) = ap suc (length-sets ps)
@@ -91,36 +92,46 @@ module _ (t : Topo) (p : PlanParts) (topo : IsTopology t) (narrow : IsNarrow t.g
   abbrev g : Network
   g = t.graph
 
+  -- each node is a monitor
   is_monitor : (v : ℕ) → v < g.nodes → has p.monitors v ≡ true
   is_monitor v l = own.monitors.all v ∙ lt-ltb v g.nodes l
 
+  -- each monitor is a node
   monitors_below : All (λ v. v < g.nodes) p.monitors
   monitors_below = All-from_has (λ v. v < g.nodes) p.monitors (λ v h. ltb-true v g.nodes (sym (own.monitors.all v) ∙ h))
 
+  -- the set of the monitors has as many nodes as the list
   so_many : size g (has p.monitors) ≡ length p.monitors
   so_many = count-has g.nodes p.monitors own.monitors.ascending monitors_below
 
+  -- the paths determine every delay
   identified : Identified g p.paths
   identified = good_recipes_identify g p.paths p.recipes own.recipes
 
+  -- so do the monitors
   identify : Identifies g (has p.monitors)
   identify = monitors_identify g (has p.monitors) p.paths own.paths.each identified
 
+  -- there is a pocket for each node
   length-pockets : length p.pockets ≡ g.nodes
   length-pockets = ap length own.same_pockets ∙ (length-map own.pockets as_part ∙ own.node_pockets.one_each)
 
+  -- that pocket has the node alone
   pocket_at : (k : ℕ) (d : PlanPocket) → k < g.nodes → get_or p.pockets k d ≡ as_part (node_pocket g k)
   pocket_at k d l = ap (λ ps. get_or ps k d) own.same_pockets ∙ (get_or-map as_part own.pockets k (node_pocket g k) d (omega (arith, l, own.node_pockets.one_each)) ∙ ap as_part (own.node_pockets.each k (node_pocket g k) l))
 
+  -- so the sets of the pockets have one node each
   singles : AreSingles g.nodes (pocket_sets p.pockets)
   singles = record {
     one_each = length-sets p.pockets ∙ length-pockets;
     single = λ v e l. sets_at p.pockets v (as_part (node_pocket g v)) e (omega (arith, l, length-pockets)) ∙ ap (λ k. k.nodes) (pocket_at v (as_part (node_pocket g v)) l);
   }
 
+  -- they are the home pockets, and show how many monitors are needed
   shows : AreHomePockets g (has p.monitors) nothing (pocket_sets p.pockets) × Shows g (pocket_sets p.pockets) (size g (has p.monitors))
   shows = shows_narrow g topo.graph topo.connected (omega (arith, topo.some_nodes)) narrow (has p.monitors) identify (pocket_sets p.pockets) singles
 
+  -- the pockets are good
   good_pockets : AreGoodPockets g p.pockets
   good_pockets = record {
     each = λ k d l. (
@@ -141,6 +152,7 @@ module _ (t : Topo) (p : PlanParts) (topo : IsTopology t) (narrow : IsNarrow t.g
       one_below k lt zero d h = lt
       one_below k lt (suc i) d h = absurd (omega (arith, h))
 
+  -- the plan is what is promised
   is_planned : IsPlanned t.names g p
   is_planned = record {
     good = record {

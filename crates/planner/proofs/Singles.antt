@@ -1,5 +1,5 @@
 -- In a network of which each node has at most two neighbours all nodes have to be monitors, and each is a pocket of its own.
-use Rattle.std.proofs.Common.{◌≡◌, ℕ, zero, suc, ◌<◌, ◌≤◌, Bool, true, false, not, ◌&&◌, ◌==◌, List, [], ◌∷◌, get_or, All, IsTrue, refl, sym, ◌∙◌, subst, inl, inr, arith}
+use Rattle.std.proofs.Common.{length, ◌≡◌, ℕ, zero, suc, ◌<◌, ◌≤◌, Bool, true, false, not, ◌&&◌, ◌==◌, List, [], ◌∷◌, get_or, All, IsTrue, refl, sym, ◌∙◌, subst, inl, inr, arith}
 use Rattle.std.proofs.lemmas.Bool.{and_parts, and_from, eqb-true, eq-eqb, or_cases, or_left, false≢true}
 use Rattle.tomo_base.specs.Network.{Network, IsGraph}
 use Rattle.tomo_base.specs.Walks.{IsConnected}
@@ -12,13 +12,19 @@ use Rattle.tomo_base.proofs.Counts.{count-some, count-mono, count-same}
 use Rattle.tomo_base.proofs.Touching.{outside-single}
 use Rattle.ident_laws.proofs.BadParts.{no_bad_part, narrow_node}
 use Rattle.ident_laws.proofs.Shown.{home_pockets_show}
-use Rattle.planner.specs.Narrow.{IsNarrow, AreSingles}
+use Rattle.planner.specs.Narrow.{IsNarrow}
+
+-- one list for each number below n, with that number alone
+pub record AreSingles (n : ℕ) (sets : List (List ℕ)) : Type 0 where
+  pub one_each : length sets ≡ n
+  pub single : (v : ℕ) (d : List ℕ) → v < n → get_or sets v d ≡ v ∷ []
 
 -- a list of one number has that number alone
 pub has_single : (x v : ℕ) → has (x ∷ []) v ≡ true → x ≡ v
 unfolding has
 has_single x v h = elim (or_cases (x == v) false h) [ inl e ↦ eqb-true x v e | inr e ↦ absurd (false≢true e) ]
 
+-- and that number it has
 pub single_has : (x : ℕ) → has (x ∷ []) x ≡ true
 unfolding has
 single_has x = or_left (x == x) false (eq-eqb x x refl)

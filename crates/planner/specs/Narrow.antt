@@ -1,5 +1,5 @@
 -- Networks of which each node has at most two neighbours: paths and cycles.
-use Rattle.std.specs.Prelude.{ℕ, ◌≡◌, ◌<◌, ◌≤◌, List, [], ◌∷◌, length, slice_index_or}
+use Rattle.std.specs.Prelude.{ℕ, ◌<◌, ◌≤◌}
 use Rattle.tomo_base.specs.Network.{Network}
 use Rattle.tomo_base.specs.Sets.{degree}
 
@@ -12,8 +12,3 @@ pub record IsFirstHub (g : Network) (v : ℕ) : Type 0 where
   pub node : v < g.nodes
   pub hub : 3 ≤ degree g v
   pub least : (w : ℕ) → w < v → degree g w ≤ 2
-
--- one list for each number below n, with that number alone
-pub record AreSingles (n : ℕ) (sets : List (List ℕ)) : Type 0 where
-  pub one_each : length sets ≡ n
-  pub single : (v : ℕ) (d : List ℕ) → v < n → slice_index_or sets v d ≡ v ∷ []

@@ -1,7 +1,6 @@
 // A plan in which every node is a monitor, so that each link is a path of its own.
-ghost use Rattle.std.specs.Prelude.{ℕ, ◌≡◌, ◌<◌, ◌≤◌, ◌+◌, ◌*◌, ◌^◌, [], ◌∷◌, length, map, take, IfOk, slice_index_or};
+ghost use Rattle.std.specs.Prelude.{ℕ, ◌≡◌, ◌<◌, ◌^◌, [], ◌∷◌, length, map, IfOk, slice_index_or};
 ghost use Rattle.tomo_base.specs.NodeLists.{node_limit};
-ghost use Rattle.simple_path.specs.Pools.{nodes_in};
 ghost use Rattle.plan_form.specs.PlanRows.{row_count};
 ghost use Rattle.planner.specs.Narrow.{IsNarrow};
 ghost use Rattle.planner.specs.Planned.{IsPlanned};

@@ -26,6 +26,7 @@ some-map : (o : Option (List ℕ)) (P Q : List ℕ → Type 0) → ((c : List �
 some-map None P Q f h = h
 some-map (Some c) P Q f h = f c h
 
+-- what a shelf tells has each further property
 pub tells-map : (told : Option Files) (name : List ℕ) (P Q : List ℕ → Type 0) → ((c : List ℕ) → P c → Q c) → Tells told name P → Tells told name Q
 tells-map None name P Q f h = tt
 tells-map (Some files) name P Q f h = some-map (get files name) P Q f h
@@ -59,6 +60,7 @@ taken-suc told (name ∷ names) (Ask before) (suc turn) wants next below taken s
     let Q : List ℕ → Type 0 = λ content. (mid : Next) × Steps before name content mid × Taken told names mid (suc turn) next in
     tells-map told name P Q (λ content h. (h.0, h.1, taken-suc told names h.0 turn wants next (omega (arith, below)) h.2 steps)) taken
 
+-- one more file was taken in
 pub taken_more : (told : Option Files) (names : List (List ℕ)) (first : Next) (turn : ℕ) (wants : Wants) (name : List ℕ) (next : Next) → turn < length names → name ≡ get_or names turn []
     → Taken told names first turn (Ask wants) → Tells told name (λ content. Steps wants name content next) → Taken told names first (turn + 1) next
 taken_more told names first turn wants name next below same taken steps = rw add-one (taken-suc told names first turn wants next below taken (rw same at steps))
@@ -115,16 +117,19 @@ asked_more names turn name old before new below same asked more =
 abbrev pub Fronts : Option Files → List (List ℕ) → Next → List (List ℕ) → List (List ℕ) → Type 0
 Fronts told names first old new = AddsFront old new names × IfSome told (λ files. AsksOnly files names first old new)
 
+-- before the next name is asked for
 fronts_before : (told : Option Files) (names : List (List ℕ)) (first next : Next) (turn : ℕ) (old new : List (List ℕ)) → Taken told names first turn next → new ≡ old ++ take turn names → Fronts told names first old new
 fronts_before None names first next turn old new taken asked = ((turn, asked), tt)
 fronts_before (Some files) names first next turn old new taken asked = ((turn, asked), (take turn names, asked, asks-before files names first turn next taken))
 
+-- after it is asked for
 fronts_now : (told : Option Files) (names : List (List ℕ)) (first : Next) (wants : Wants) (turn : ℕ) (old new : List (List ℕ)) → turn < length names
     → Taken told names first turn (Ask wants) → new ≡ old ++ take (turn + 1) names → Fronts told names first old new
 fronts_now None names first wants turn old new below taken asked = ((turn + 1, asked), tt)
 fronts_now (Some files) names first wants turn old new below taken asked =
     ((turn + 1, asked), (take (suc turn) names, rw add-one at asked, asks-now files names first turn wants below taken))
 
+-- a read that asks for the next name, or wants memory first, adds a front of the names
 pub fronts : (told : Option Files) (names : List (List ℕ)) (first : Next) (wants : Wants) (turn : ℕ) (name : List ℕ) (old before new : List (List ℕ)) (result : Result Got ShelfFault)
     → turn < length names → name ≡ get_or names turn [] → before ≡ old ++ take turn names → Taken told names first turn (Ask wants)
     → Asks before new name result → Fronts told names first old new
@@ -209,6 +214,7 @@ within_limit : (told : Option Files) (name : List ℕ) (most : ℕ) (got : Got) 
 within_limit told name most Whole out gives = gives.0
 within_limit told name most TooLong out gives = rw gives.0 (omega arith)
 
+-- what was read whole is within the limit of the file that is wanted
 pub within_wanted : (told : Option Files) (name : List ℕ) (wants : Wants) (kind : Kind) (most : ℕ) (got : Got) (out content : List ℕ) → kind ≡ kind_of wants → most ≡ limit kind → content ≡ out
     → Gives told name most (Ok got) out → length content ≤ limit (kind_of wants)
 within_wanted told name wants kind most got out content of_wants of_kind of_out gives =

@@ -1,23 +1,16 @@
 -- The words of a shape: how many files they name, and at which places.
-use Rattle.std.proofs.Common.{◌≡◌, ◌∙◌, ap, refl, ℕ, ◌+◌, ◌-◌, ◌<◌, List, [], length, take, drop, get_or, Option, Some, None, arith, true, false, Bool, ◌&&◌, length-drop, if◌then◌else◌}
+use Rattle.std.proofs.Common.{◌≡◌, ◌∙◌, ap, refl, ℕ, ◌+◌, ◌-◌, ◌<◌, List, [], length, take, drop, get_or, Option, Some, None, arith, true, false, Bool, length-drop, if◌then◌else◌}
 use Rattle.std.proofs.lemmas.List.{get_or-drop, get_or-take, length-take-le, drop_more}
-use Rattle.std.proofs.lemmas.Bool.{eqb-true}
+use Rattle.std.proofs.lemmas.Bool.{and_parts, eqb-true}
 use Rattle.tomo.specs.Table.{shape, shaped, fits, first_place, has_header, files_of, word_count, file_words, named, begins_option, no_options}
 use Rattle.tomo.specs.declared.table.Command.{Command}
 use Rattle.tomo.specs.declared.table.Shape.{Shape}
 
-and-left : (a b : Bool) → (a && b) ≡ true → a ≡ true
-and-left true b e = refl
-and-left false b e = cc e
-
-and-right : (a b : Bool) → (a && b) ≡ true → b ≡ true
-and-right true b e = e
-and-right false b e = cc e
-
 -- a shape has as many words after its place as the command has files
 fits-count : (words : List (List ℕ)) (command : Command) (first : ℕ) → fits words command first ≡ true → length words - first ≡ word_count command
-fits-count words command first e = eqb-true _ _ (and-right _ _ (and-left _ _ e))
+fits-count words command first e = eqb-true _ _ (and_parts _ _ (and_parts _ _ e).0).1
 
+-- so has the shape that a test lets through
 tested-count : (words : List (List ℕ)) (command : Command) (b : Bool) (s : Shape)
     → (b ≡ true → length words - first_place (has_header words) ≡ word_count command)
     → (if b then Some (record { command = command; header = has_header words }) else None) ≡ Some s
@@ -27,13 +20,16 @@ tested-count words command true s count e =
     rw (← same) (count refl)
 tested-count words command false s count e = cc e
 
+-- and the shape of words that begin with a command
 shaped-count : (words : List (List ℕ)) (o : Option Command) (s : Shape) → shaped words o ≡ Some s → length words - first_place s.header ≡ word_count s.command
 shaped-count words None s e = cc e
 shaped-count words (Some command) s e = tested-count words command _ s (fits-count words command _) e
 
+-- and that of any words
 rest-count : (words : List (List ℕ)) (s : Shape) → shape words ≡ Some s → length words - first_place s.header ≡ word_count s.command
 rest-count words s e = shaped-count words _ s e
 
+-- the files of a shape are the words from its place on
 files-of-shape : (words : List (List ℕ)) (s : Shape) → shape words ≡ Some s → file_words words ≡ take (length (files_of s.command)) (drop (first_place s.header) words)
 files-of-shape words s e = ap (named words) e
 
@@ -65,11 +61,13 @@ pub option_here : (words : List (List ℕ)) (place : ℕ) → place < length wor
 unfolding no_options
 option_here words place below starts = rw (drop_more words place [] below, starts) refl
 
+-- words with an option later on, if at all
 pub option_later : (words : List (List ℕ)) (place : ℕ) → place < length words → begins_option (get_or words place []) ≡ false
     → no_options (drop place words) ≡ no_options (drop (place + 1) words)
 unfolding no_options
 option_later words place below starts = rw (drop_more words place [] below, starts) refl
 
+-- no words have no option
 pub option_none : no_options [] ≡ true
 unfolding no_options
 option_none = refl

@@ -1,5 +1,5 @@
 // Asking for one file after the other.
-ghost use Rattle.std.specs.Prelude.{◌≡◌, ◌≢◌, ◌≤◌, Some, IfOk, IfSome, IsTrue};
+ghost use Rattle.std.specs.Prelude.{◌≡◌, ◌≢◌, Some, IfOk, IfSome, IsTrue};
 ghost use Rattle.outside.specs.Causes.{Rose};
 ghost use Rattle.tomo.specs.Table.{shape as shape_in, file_words};
 ghost use Rattle.tomo.specs.Machine.{start};

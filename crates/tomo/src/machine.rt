@@ -1,8 +1,7 @@
 // The machine that takes in one file after the other, and never sees a device.
-ghost use Rattle.std.specs.Prelude.{◌≡◌, ◌≤◌, IfOk, length, codes, decimal};
+ghost use Rattle.std.specs.Prelude.{◌≡◌, ◌≤◌, IfOk, length};
 ghost use Rattle.rows.specs.Rows.{rows_of};
 ghost use Rattle.tomo.specs.Table.{files_of, limit};
-ghost use Rattle.tomo.specs.Refusals.{refused};
 ghost use Rattle.tomo.specs.Machine.{files_left, kind_of, start, WithTopology, Takes, StepsBy, Fewer, StartsWith};
 
 use crate::narrow::Narrow;

@@ -1,6 +1,6 @@
 // The table of commands: the words that each takes, and the shape of a command line.
-ghost use Rattle.std.specs.Prelude.{◌≡◌, ◌≤◌, ◌+◌, length, drop, Option};
-ghost use Rattle.tomo.specs.Table.{command_of, files_of, word_count, first_place, begins_option, no_options, shape, limit};
+ghost use Rattle.std.specs.Prelude.{◌≡◌, ◌≤◌, length, drop, Option};
+ghost use Rattle.tomo.specs.Table.{command_of, word_count, first_place, begins_option, no_options, shape, limit};
 
 use tomo_base::Words;
 

@@ -9,7 +9,8 @@ use Rattle.std.specs.Global.{Global}
 use Rattle.std.proofs.lemmas.Bool.{cases_lt}
 use Rattle.tomo_base.specs.Network.{Network}
 use Rattle.tomo_base.specs.Identify.{IsMonitorPath}
-use Rattle.plan_form.specs.Building.{turned, sum_at, path_terms, renumbered, IsMerged, IsRewritten, IsBuilt}
+use Rattle.simple_path.specs.Terms.{path_terms}
+use Rattle.plan_form.specs.Building.{turned, sum_at, renumbered, IsMerged, IsRewritten, IsBuilt}
 use Rattle.plan_form.specs.Buildable.{IsShort, IsBuildable}
 use Rattle.plan_form.specs.Good.{EndsAscend, AreGoodPaths, IsGoodRecipe}
 use Rattle.plan_form.specs.Order.{path_cmp}

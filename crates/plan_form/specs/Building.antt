@@ -21,11 +21,6 @@ pub record IsMerged (old new : List Term) : Type 0 where
   pub some : All (λ t. t.coef ≢ pos 0) new
   pub sums : (k : ℕ) → sum_at new k ≡ sum_at old k
 
--- the terms with the paths that their numbers name
-abbrev pub path_terms : List (List ℕ) → List Term → List (ℤ × List ℕ)
-path_terms paths [] = []
-path_terms paths (t ∷ ts) = (t.coef, slice_index_or paths t.path []) ∷ path_terms paths ts
-
 -- the terms with other path numbers
 abbrev pub renumbered : (ℕ → ℕ) → List Term → List Term
 renumbered f [] = []

@@ -9,7 +9,7 @@ use Rattle.tomo_base.specs.Recipes.{IsRecipe}
 use Rattle.tomo_base.specs.Pockets.{need_of}
 use Rattle.simple_path.specs.declared.recipe.Term.{Term}
 use Rattle.plan_form.specs.Parts.{PlanPocket, PlanParts}
-use Rattle.plan_form.specs.Building.{path_terms}
+use Rattle.simple_path.specs.Terms.{path_terms}
 use Rattle.plan_form.specs.Order.{path_cmp}
 
 -- monitors are nodes, ascending

@@ -2,7 +2,8 @@
 ghost use Rattle.std.specs.Prelude.{ℕ, ◌≡◌, ◌<◌, ◌≤◌, [], length, map, All, IfOk, slice_index_or};
 ghost use Rattle.tomo_base.specs.Sets.{has};
 ghost use Rattle.tomo_base.specs.Recipes.{IsRecipe};
-ghost use Rattle.plan_form.specs.Building.{IsBuilt, path_terms};
+ghost use Rattle.simple_path.specs.Terms.{path_terms};
+ghost use Rattle.plan_form.specs.Building.{IsBuilt};
 ghost use Rattle.plan_form.specs.Buildable.{IsBuildable, as_part};
 ghost use Rattle.plan_form.specs.Good.{AreGoodPaths, IsGoodRecipe};
 

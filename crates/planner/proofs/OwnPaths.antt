@@ -19,7 +19,8 @@ use Rattle.topology.proofs.Graphs.{link_at}
 use Rattle.simple_path.specs.declared.recipe.Term.{Term}
 use Rattle.simple_path.specs.Pools.{nodes_in}
 use Rattle.plan_form.specs.Parts.{IsCoefficient}
-use Rattle.plan_form.specs.Building.{sum_at, path_terms, IsRewritten}
+use Rattle.simple_path.specs.Terms.{path_terms}
+use Rattle.plan_form.specs.Building.{sum_at, IsRewritten}
 use Rattle.plan_form.specs.Buildable.{IsShort, IsBuildable}
 use Rattle.planner.specs.Direct.{link_path, twice}
 

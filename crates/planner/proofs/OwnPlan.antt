@@ -18,7 +18,8 @@ use Rattle.simple_path.specs.declared.recipe.Term.{Term}
 use Rattle.topology.specs.Topology.{Topo, IsTopology}
 use Rattle.plan_form.specs.Parts.{PlanPocket, PlanParts}
 use Rattle.plan_form.specs.PlanRows.{row_count}
-use Rattle.plan_form.specs.Building.{path_terms, IsBuilt}
+use Rattle.simple_path.specs.Terms.{path_terms}
+use Rattle.plan_form.specs.Building.{IsBuilt}
 use Rattle.plan_form.specs.Buildable.{as_part}
 use Rattle.plan_form.specs.Good.{AreGoodPaths, AreGoodPockets, AreGoodRecipes, IsGoodRecipe, pocket_sets}
 use Rattle.planner.specs.Narrow.{IsNarrow}

@@ -15,7 +15,7 @@ use Rattle.tomo_base.proofs.Links.{joins_comm, joins_gives}
 use Rattle.tomo_base.proofs.Rows.{any_joins-from, AllPairs-head, AllPairs-tail}
 use Rattle.tomo_base.proofs.Entering.{joins_its_ends, slice_get-get_or}
 use Rattle.tomo_base.proofs.Ascending.{same_list}
-use Rattle.topology.proofs.Graphs.{link_at}
+use Rattle.tomo_base.proofs.Links.{link_at}
 use Rattle.simple_path.specs.declared.recipe.Term.{Term}
 use Rattle.simple_path.specs.Pools.{nodes_in}
 use Rattle.plan_form.specs.Parts.{IsCoefficient}

@@ -1,18 +1,18 @@
 -- What an ascending list of nodes keeps when a node is put into it, and that a set has one such list.
-use Rattle.std.proofs.Common.{◌≡◌, ℕ, zero, suc, ◌+◌, ◌<◌, ◌≤◌, Bool, true, false, ◌||◌, ◌&&◌, ◌==◌, nat_lt, List, [], ◌∷◌, length, get_or, take, drop, lt-ltb, ne_eqb, All, refl, sym, ap, ap₂, ◌∙◌, subst, inl, inr, arith, Result, Ok, Err, is_ok}
+use Rattle.std.proofs.Common.{◌≡◌, ℕ, zero, suc, ◌+◌, ◌<◌, ◌≤◌, Bool, true, false, ◌||◌, ◌&&◌, ◌==◌, nat_lt, List, [], ◌∷◌, ◌++◌, length, get_or, take, drop, lt-ltb, ne_eqb, All, refl, sym, ap, ap₂, ◌∙◌, subst, inl, inr, arith, Result, Ok, Err, is_ok}
 use Rattle.std.specs.List.{insert}
 use Rattle.std.specs.List.Sorted.{IsStrictlyIncreasing, IsBinarySearchResult}
 use Rattle.std.specs.Ordering.{nat_cmp}
-use Rattle.std.proofs.lemmas.Bool.{cases_order, cases_lt, cases_eq, cases_Bool, or_cases, or_left, or_right, eqb-true, eq-eqb, false_from_ne_true, true≢false}
+use Rattle.std.proofs.lemmas.Bool.{both_ways, cases_order, cases_lt, cases_eq, cases_Bool, or_cases, or_left, or_right, eqb-true, eq-eqb, false_from_ne_true, true≢false}
 use Rattle.std.proofs.lemmas.List.Edits.{length-insert, get_or-insert_below, get_or-insert_at, get_or-insert_above}
 use Rattle.std.proofs.lemmas.List.Kept.{AllPairs-from_increasing}
 use Rattle.std.proofs.lemmas.List.Sorted.{searched}
-use Rattle.std.proofs.lemmas.List.{take-append-drop, take_more}
+use Rattle.std.proofs.lemmas.List.{take-append-drop, take_more, length_push, get_or_append_left, get_or_push, append-nil}
 use Rattle.std.proofs.lemmas.Bool.Decides.{nat_tests}
-use Rattle.tomo_base.specs.Sets.{has}
+use Rattle.tomo_base.specs.Sets.{has, members}
 use Rattle.tomo_base.specs.NodeLists.{node_limit, IsNodeSet}
 use Rattle.tomo_base.proofs.Counts.{count-le}
-use Rattle.tomo_base.proofs.Members.{count-has, has-append, first_least, increasing-tail, first_once}
+use Rattle.tomo_base.proofs.Members.{members_below, count-has, has-append, first_least, increasing-tail, first_once}
 
 -- a set of nodes has at most as many as a graph may have
 pub length-node_set : (xs : List ℕ) → IsNodeSet xs → length xs ≤ node_limit
@@ -191,3 +191,25 @@ below-none p w = grind (arith, nat_tests)
 -- a test that no number from n on passes is found whole below n
 pub below-all : (p : ℕ → Bool) (n w : ℕ) → (n ≤ w → p w ≡ false) → (nat_lt w n && p w) ≡ p w
 below-all p n w out = elim (cases_lt w n) [ inl lt ↦ rw (lt-ltb w n lt) refl | inr ge ↦ rw (out ge) (grind arith) ]
+
+-- an ascending list goes on ascending with a number above all of it
+pub increasing_push : (xs : List ℕ) (x : ℕ) → IsStrictlyIncreasing xs → ((v : ℕ) → has xs v ≡ true → v < x) → IsStrictlyIncreasing (xs ++ x ∷ [])
+increasing_push xs x up above k l = elim (cases_lt (k + 1) (length xs)) [
+  | inl lt ↦ (let here : k < length xs = omega arith in rw (get_or_append_left xs (x ∷ []) 0 k here, get_or_append_left xs (x ∷ []) 0 (k + 1) lt) (up k lt))
+  | inr ge ↦ (
+      let here : k < length xs = omega (arith, l, length_push xs x) in
+      let last : length xs ≡ k + 1 = omega (arith, ge, here) in
+      rw (get_or_append_left xs (x ∷ []) 0 k here, get_or_push xs x 0 (k + 1) last) (above (get_or xs k 0) (has-at xs k 0 here)))
+]
+
+-- the members of a set ascend
+pub members_ascend : (n : ℕ) (q : ℕ → Bool) → IsStrictlyIncreasing (members n q)
+unfolding members
+members_ascend zero q = λ k l. absurd (omega arith)
+members_ascend (suc n) q = elim (cases_Bool (q n)) [
+  | inl e ↦ rw e (increasing_push (members n q) n (members_ascend n q) (below n q))
+  | inr e ↦ rw (e, append-nil (members n q)) (members_ascend n q)
+]
+  where
+    below : (m : ℕ) (p : ℕ → Bool) (v : ℕ) → has (members m p) v ≡ true → v < m
+    below m p v h = elim (cases_lt v m) [ inl lt ↦ lt | inr ge ↦ absurd (both_ways (has (members m p) v) (members_below m p v ge) h) ]

@@ -1,5 +1,5 @@
 -- What entering a link in the rows of its two ends does to them, and the first fault of a list of links.
-use Rattle.std.proofs.Common.{◌≡◌, ◌≢◌, ℕ, zero, suc, ◌+◌, ◌<◌, ◌≤◌, ◌⊎◌, true, false, ◌||◌, nat_lt, List, [], ◌∷◌, ◌++◌, map, length, get_or, set, take, drop, slice_get, Some, None, Option, is_some, IfSome, IfNone, All, AllPairs, Contains, Vec, refl, sym, ap, ◌∙◌, inl, inr, arith, ap₂, length-append, length-set, take_at, get_or-set_same, get_or-set_other}
+use Rattle.std.proofs.Common.{◌≡◌, ◌≢◌, ℕ, zero, suc, ◌+◌, ◌<◌, ◌≤◌, ◌⊎◌, true, false, ◌||◌, nat_lt, List, [], ◌∷◌, ◌++◌, map, length, get_or, set, take, drop, slice_get, Some, None, Option, is_some, IfSome, IfNone, All, Contains, Vec, refl, sym, ap, ◌∙◌, inl, inr, arith, ap₂, length-append, length-set, take_at, get_or-set_same, get_or-set_other}
 use Rattle.std.specs.Global.{Global}
 use Rattle.std.proofs.lemmas.Bool.{cases_Bool, cases_eq, cases_order, false≢true, true≢false, ltb-true, ltb-false}
 use Rattle.std.proofs.lemmas.Bool.Decides.{nat_tests}
@@ -127,7 +127,7 @@ pub row_read : (links : List Link) (rows : List (Vec Hop Global)) (a : ℕ) (row
 row_read links rows a row xs are lt row_is xs_is = rw (xs_is, row_is) (are a row lt)
 
 -- a row without the node has no link to it
-pub no_link_yet : (links : List Link) (v w : ℕ) (hops : List Hop) (o : Option ℕ) → AreHops links v hops → IfNone o (AllPairs (λ h k. h.node < k.node) hops → All (λ h. h.node ≢ w) hops) → is_some o ≡ false → any_joins links v w ≡ false
+pub no_link_yet : (links : List Link) (v w : ℕ) (hops : List Hop) (o : Option ℕ) → AreHops links v hops → IfNone o (All (λ h. h.node ≢ w) hops) → is_some o ≡ false → any_joins links v w ≡ false
 no_link_yet links v w hops None are none missing = no_link links v w hops None are none
 no_link_yet links v w hops (Some i) are none missing = absurd (true≢false missing)
 

@@ -1,5 +1,5 @@
 -- Which nodes a link joins, in a link and in a list of links.
-use Rattle.std.proofs.Common.{◌≡◌, ℕ, ◌<◌, ◌⊎◌, true, ◌||◌, List, [], ◌∷◌, IsTrue, refl, ap₂, ◌∙◌, inl, inr, arith}
+use Rattle.std.proofs.Common.{◌≡◌, ℕ, ◌<◌, ◌⊎◌, true, ◌||◌, List, [], ◌∷◌, IsTrue, refl, ap₂, zero, suc, slice_get, Some, ◌∙◌, inl, inr, arith}
 use Rattle.std.proofs.lemmas.Bool.{or_cases, false≢true}
 use Rattle.std.proofs.lemmas.Bool.Decides.{nat_tests}
 use Rattle.tomo_base.specs.declared.graph.Link.{Link}
@@ -34,3 +34,12 @@ linked_below n (l ∷ ls) a b w h = elim (or_cases _ _ h) [ inl e ↦ ends (join
     ends : ((l.a ≡ a) × (l.b ≡ b)) ⊎ ((l.a ≡ b) × (l.b ≡ a)) → (a < n) × (b < n)
     ends (inl e) = omega (arith, w.0, w.1, e.0, e.1)
     ends (inr e) = omega (arith, w.0, w.1, e.0, e.1)
+
+-- each link joins a lower to a higher node
+pub link_at : (n : ℕ) (ls : List Link) (i : ℕ) (l : Link) → AreLinks n ls → slice_get ls i ≡ Some l → (l.a < l.b) × (l.b < n)
+link_at n [] i l are at = cc
+link_at n (m ∷ ls) zero l are at = rw (← some at) (are.0, are.1)
+  where
+    some : {x y : Link} → Some x ≡ Some y → x ≡ y
+    some e = cc
+link_at n (m ∷ ls) (suc i) l are at = link_at n ls i l are.3 at

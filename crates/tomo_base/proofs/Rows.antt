@@ -8,11 +8,12 @@ use Rattle.std.proofs.lemmas.List.Kept.{AllPairs-cons}
 use Rattle.std.proofs.lemmas.List.{get_or_default}
 use Rattle.std.proofs.lemmas.List.Edits.{length-insert, get_or-insert_at}
 use Rattle.std.proofs.lemmas.Grind.{in_insert}
-use Rattle.tomo_base.proofs.Links.{joins_gives}
+use Rattle.std.specs.List.Sorted.{IsNonDecreasingBy}
+use Rattle.tomo_base.proofs.Links.{joins_gives, joins_comm, any_joins_comm}
 use Rattle.tomo_base.specs.declared.graph.Link.{Link}
 use Rattle.tomo_base.specs.declared.graph.Hop.{Hop}
 use Rattle.tomo_base.specs.Network.{joins, any_joins, AreLinks}
-use Rattle.tomo_base.specs.Table.{JoinsAt, AreHops}
+use Rattle.tomo_base.specs.Table.{JoinsAt, Ascend, AreHops}
 
 -- a link between a and b has a number
 pub any_joins_gives : (ls : List Link) (a b : ℕ) → any_joins ls a b ≡ true → (i : ℕ) × JoinsAt ls i a b
@@ -46,6 +47,13 @@ AreHops_none links v w hops are none = elim (cases_Bool (any_joins links v w)) [
   | inr e ↦ e
 ]
 
+-- ascending neighbours never fall
+pub never_falls : (hops : List Hop) → Ascend hops → IsNonDecreasingBy (λ h. h.node) hops
+never_falls hops up i j d le l = elim (cases_eq i j) [
+  | inl same ↦ subst (λ k. (get_or hops i d).node ≤ (get_or hops k d).node) same (omega arith)
+  | inr ne ↦ omega (arith, up i j d (omega (arith, le, ne)) l)
+]
+
 -- a node that does not stand at its place stands nowhere
 pub not_there : (hops : List Hop) (p w : ℕ) → AllPairs (λ h k. h.node < k.node) hops → AllWithin (λ h. h.node < w) hops 0 p → (p < length hops → (d : Hop) → w < (get_or hops p d).node) → All (λ h. h.node ≢ w) hops
 not_there hops p w asc below here k d l e = elim (cases_order k p) [
@@ -71,9 +79,18 @@ found_link links v w hops None are h = h
 found_link links v w hops (Some i) are h = AreHops_gives links v i w hops are h
 
 -- a hop that was not found is none
-pub no_link : (links : List Link) (v w : ℕ) (hops : List Hop) (o : Option ℕ) → AreHops links v hops → IfNone o (AllPairs (λ h k. h.node < k.node) hops → All (λ h. h.node ≢ w) hops) → IfNone o (any_joins links v w ≡ false)
-no_link links v w hops None are h = AreHops_none links v w hops are (h are.ascending)
+pub no_link : (links : List Link) (v w : ℕ) (hops : List Hop) (o : Option ℕ) → AreHops links v hops → IfNone o (All (λ h. h.node ≢ w) hops) → IfNone o (any_joins links v w ≡ false)
+no_link links v w hops None are h = AreHops_none links v w hops are h
 no_link links v w hops (Some i) are h = h
+
+-- so seen from the other node
+pub found_back : (links : List Link) (v w : ℕ) (o : Option ℕ) → IfSome o (λ i. JoinsAt links i v w) → IfSome o (λ i. JoinsAt links i w v)
+found_back links v w None h = h
+found_back links v w (Some i) h = (h.0, h.1, joins_comm h.0 w v ∙ h.2)
+
+pub none_back : (links : List Link) (v w : ℕ) (o : Option ℕ) → IfNone o (any_joins links v w ≡ false) → IfNone o (any_joins links w v ≡ false)
+none_back links v w None h = any_joins_comm links w v ∙ h
+none_back links v w (Some i) h = h
 
 -- ---- lists: an element put in, one more at the end
 

@@ -1,140 +1,337 @@
--- A search from node 0 marks the nodes that a walk from it reaches.
-use Rattle.std.proofs.Common.{◌≡◌, ℕ, zero, suc, ◌+◌, ◌<◌, ◌⊎◌, Bool, true, false, List, [], ◌∷◌, ◌++◌, length, get_or, set, Contains, All, IsTrue, refl, sym, ap, ◌∙◌, inl, inr, arith, subst, length-set, get_or-set_same, get_or-set_other}
-use Rattle.std.proofs.lemmas.Bool.{cases_eq, cases_lt, both_ways, true≢false}
-use Rattle.std.proofs.lemmas.List.{length_push, get_or_default, get_or_past}
-use Rattle.std.proofs.lemmas.List.Elements.{Contains-push, Contains-append_left, Contains-push_cases}
+-- A search ranks the nodes that it reaches, and reaches the free nodes to which walks over free nodes lead.
+use Rattle.std.proofs.Common.{◌≡◌, ◌≢◌, ℕ, zero, suc, ◌+◌, ◌<◌, ◌≤◌, Bool, true, false, List, [], ◌∷◌, ◌++◌, length, get_or, set, take, replicate, All, AllPairs, IsTrue, refl, sym, ap, ap₂, ◌∙◌, inl, inr, arith, subst, length-set, get_or-set_same, get_or-set_other}
+use Rattle.std.proofs.lemmas.Bool.{cases_eq, cases_lt, lt-ltb, le-ltb}
+use Rattle.std.proofs.lemmas.List.{length_push, get_or_append_left, get_or_push, length-replicate, get_or-replicate, get_or_default, get_or-take, length-take-le, take_more}
 use Rattle.tomo_base.specs.declared.graph.Hop.{Hop}
-use Rattle.tomo_base.specs.declared.graph.Link.{Link}
 use Rattle.tomo_base.specs.Network.{Network, linked, any_joins, IsGraph}
 use Rattle.tomo_base.specs.Table.{JoinsAt, AreHops}
+use Rattle.tomo_base.specs.Walks.{StepsFrom, end_of, Reaches, everything, IsConnected}
+use Rattle.tomo_base.specs.Search.{mark_of, unseen_of, entry_at, unranked, AreRanked, IsSearch}
 use Rattle.tomo_base.proofs.Links.{linked_below}
 use Rattle.tomo_base.proofs.Rows.{any_joins_gives, any_joins-from}
-use Rattle.tomo_base.specs.Walks.{StepsFrom, end_of, Reaches, everything, IsConnected}
 use Rattle.tomo_base.proofs.Walks.{Reaches-trans, Reaches-step, Reaches_comm}
-use Rattle.tomo_base.specs.Search.{mark_of, unseen_of, LeadsTo, Visits}
 
 -- a new mark leaves one node fewer without
-unseen-set : (seen : List Bool) (u : ℕ) → u < length seen → mark_of seen u ≡ false → unseen_of (set seen u true) + 1 ≡ unseen_of seen
+pub unseen-set : (seen : List Bool) (u : ℕ) → u < length seen → mark_of seen u ≡ false → unseen_of (set seen u true) + 1 ≡ unseen_of seen
 unseen-set [] u l h = absurd (omega arith)
 unseen-set (false ∷ xs) zero l h = omega arith
-unseen-set (true ∷ xs) zero l h = absurd (true≢false h)
+unseen-set (true ∷ xs) zero l h = cc
 unseen-set (true ∷ xs) (suc u) l h = unseen-set xs u (omega arith) h
 unseen-set (false ∷ xs) (suc u) l h = let rest : unseen_of (set xs u true) + 1 ≡ unseen_of xs = unseen-set xs u (omega arith) h in omega (arith, rest)
 
+-- ---- ranks
+
+-- a new rank leaves one node fewer without
+unranked-set : (n : ℕ) (rank : List ℕ) (v r : ℕ) → v < length rank → n ≤ entry_at rank v → r < n → unranked n (set rank v r) + 1 ≡ unranked n rank
+unranked-set n [] v r l bare small = absurd (omega arith)
+unranked-set n (x ∷ xs) zero r l bare small = rw (lt-ltb r n small, le-ltb x n bare) (omega arith)
+unranked-set n (x ∷ xs) (suc v) r l bare small = let rest : unranked n (set xs v r) + 1 ≡ unranked n xs = unranked-set n xs v r (omega arith) bare small in omega (arith, rest)
+
+-- where a node has no rank, some node has none
+some_unranked : (n : ℕ) (rank : List ℕ) (v : ℕ) → v < length rank → n ≤ entry_at rank v → 1 ≤ unranked n rank
+some_unranked n [] v l bare = absurd (omega arith)
+some_unranked n (x ∷ xs) zero l bare = rw (le-ltb x n bare) (omega arith)
+some_unranked n (x ∷ xs) (suc v) l bare = let rest : 1 ≤ unranked n xs = some_unranked n xs v (omega arith) bare in omega (arith, rest)
+
+-- at the start none has
+unranked-bare : (n k : ℕ) → unranked n (replicate k n) ≡ k
+unranked-bare n zero = refl
+unranked-bare n (suc k) = rw (le-ltb n n (omega arith)) (omega (arith, unranked-bare n k))
+
+-- while a node has no rank, the order has room
+pub room_for : (n w : ℕ) (free : List Bool) (order rank : List ℕ) → AreRanked n free order rank → w < n → n ≤ entry_at rank w → length order < n
+room_for n w free order rank are below bare = let some : 1 ≤ unranked n rank = some_unranked n rank w (omega (arith, below, are.one_each)) bare in omega (arith, some, are.balance)
+
+-- an order has no more nodes than there are
+pub few_ranked : (n : ℕ) (free : List Bool) (order rank : List ℕ) → AreRanked n free order rank → length order ≤ n
+few_ranked n free order rank are = omega (arith, are.balance)
+
+-- no ranks
+pub none_ranked : (n : ℕ) (free : List Bool) → AreRanked n free [] (replicate n n)
+none_ranked n free = record {
+  one_each = length-replicate n n;
+  ranked = λ k l. absurd (omega arith);
+  most = λ v l. let bare : entry_at (replicate n n) v ≡ n = get_or-replicate n v n 0 l in omega (arith, bare);
+  placed = λ v l has_rank. let bare : entry_at (replicate n n) v ≡ n = get_or-replicate n v n 0 l in absurd (omega (arith, has_rank, bare));
+  allowed = λ k l. absurd (omega arith);
+  balance = omega (arith, unranked-bare n n);
+}
+
+-- the number at a place of a list with one more, before the last place
+at_before : (xs : List ℕ) (x k : ℕ) → k < length xs → entry_at (xs ++ x ∷ []) k ≡ entry_at xs k
+at_before xs x k l = get_or_append_left xs (x ∷ []) 0 k l
+
+-- and at the last
+at_last : (xs : List ℕ) (x k : ℕ) → k ≡ length xs → entry_at (xs ++ x ∷ []) k ≡ x
+at_last xs x k same = get_or_push xs x 0 k (sym same)
+
+-- a ranked node differs from one without rank
+ranked_differs : (n : ℕ) (rank : List ℕ) (v w : ℕ) → entry_at rank v < n → n ≤ entry_at rank w → v ≢ w
+ranked_differs n rank v w small bare same = let equal : entry_at rank v ≡ entry_at rank w = ap (entry_at rank) same in omega (arith, equal, small, bare)
+
+-- a free node without rank gets the next
+pub ranks_more : (n w : ℕ) (free : List Bool) (order rank : List ℕ) → AreRanked n free order rank → w < n → n ≤ entry_at rank w → mark_of free w ≡ true → AreRanked n free (order ++ w ∷ []) (set rank w (length order))
+ranks_more n w free order rank are below bare is_free =
+    let room : length order < n = room_for n w free order rank are below bare in
+    let size : w < length rank = omega (arith, below, are.one_each) in
+    record {
+      one_each = length-set rank w (length order) ∙ are.one_each;
+      ranked = λ k l. elim (cases_lt k (length order)) [
+        | inl lt ↦
+            let old = are.ranked k lt in
+            let other : entry_at order k ≢ w = ranked_differs n rank (entry_at order k) w (omega (arith, old.1, lt, room)) bare in
+            rw (at_before order w k lt, get_or-set_other rank w (entry_at order k) (length order) 0 other) old
+        | inr ge ↦
+            let last : k ≡ length order = omega (arith, l, ge, length_push order w) in
+            rw (at_last order w k last, get_or-set_same rank w (length order) 0 size) (below, sym last)
+      ];
+      most = λ v l. elim (cases_eq v w) [
+        | inl same ↦ rw (same, get_or-set_same rank w (length order) 0 size) (omega (arith, room))
+        | inr other ↦ rw (get_or-set_other rank w v (length order) 0 other) (are.most v l)
+      ];
+      placed = λ v l small. elim (cases_eq v w) [
+        | inl same ↦
+            let new : entry_at (set rank w (length order)) v ≡ length order = ap (entry_at (set rank w (length order))) same ∙ get_or-set_same rank w (length order) 0 size in
+            rw new (omega (arith, length_push order w), at_last order w (length order) refl ∙ sym same)
+        | inr other ↦
+            let kept : entry_at (set rank w (length order)) v ≡ entry_at rank v = get_or-set_other rank w v (length order) 0 other in
+            let old = are.placed v l (omega (arith, small, kept)) in
+            rw kept (omega (arith, old.0, length_push order w), at_before order w (entry_at rank v) old.0 ∙ old.1)
+      ];
+      allowed = λ k l. elim (cases_lt k (length order)) [
+        | inl lt ↦ rw (at_before order w k lt) (are.allowed k lt)
+        | inr ge ↦ rw (at_last order w k (omega (arith, l, ge, length_push order w))) is_free
+      ];
+      balance = omega (arith, unranked-set n rank w (length order) size bare room, length_push order w, are.balance);
+    }
+
+-- ---- a search goes on
+
+-- a free neighbour, without rank, of the node at hand is reached
+pub search_more : (g : Network) (free : List Bool) (seeds : List ℕ) (head w : ℕ) (order parent rank : List ℕ) → IsSearch g free seeds head order parent rank → head < length order
+    → w < g.nodes → IsTrue (linked g (entry_at order head) w) → mark_of free w ≡ true → g.nodes ≤ entry_at rank w
+    → IsSearch g free seeds head (order ++ w ∷ []) (set parent w (entry_at order head)) (set rank w (length order))
+search_more g free seeds head w order parent rank s place below link is_free bare =
+    let n = g.nodes in
+    let u = entry_at order head in
+    let room : length order < n = room_for n w free order rank s.ranks below bare in
+    let size : w < length rank = omega (arith, below, s.ranks.one_each) in
+    let room_in_parents : w < length parent = omega (arith, below, s.parents) in
+    let other : (k : ℕ) → k < length order → entry_at order k ≢ w = λ k l. ranked_differs n rank (entry_at order k) w (omega (arith, (s.ranks.ranked k l).1, l, room)) bare in
+    let few : (k : ℕ) → k < length seeds → k < length order = λ k l. (s.begins k l).0 in
+    record {
+      ranks = ranks_more n w free order rank s.ranks below bare is_free;
+      parents = length-set parent w u ∙ s.parents;
+      begins = λ k l. (omega (arith, few k l, length_push order w), at_before order w k (few k l) ∙ (s.begins k l).1);
+      roots = λ k l. rw (at_before order w k (few k l), get_or-set_other parent w (entry_at order k) u 0 (other k (few k l))) (s.roots k l);
+      steps = λ k least l. elim (cases_lt k (length order)) [
+        | inl lt ↦
+            let old = s.steps k least lt in
+            let p = entry_at parent (entry_at order k) in
+            let differs : p ≢ w = ranked_differs n rank p w (omega (arith, old.0, lt, room)) bare in
+            rw (at_before order w k lt, get_or-set_other parent w (entry_at order k) u 0 (other k lt), get_or-set_other rank w p (length order) 0 differs) old
+        | inr ge ↦
+            let last : k ≡ length order = omega (arith, l, ge, length_push order w) in
+            let small : entry_at rank u < k = omega (arith, (s.ranks.ranked head place).1, place, last) in
+            rw (at_last order w k last, get_or-set_same parent w u 0 room_in_parents, get_or-set_other rank w u (length order) 0 (other head place)) (small, link)
+      ];
+      closed = λ k v before joined v_free.
+          let old : entry_at rank v < n = s.closed k v before (rw (at_before order w k (omega (arith, before, place))) at joined) v_free in
+          let differs : v ≢ w = ranked_differs n rank v w old bare in
+          omega (arith, old, get_or-set_other rank w v (length order) 0 differs);
+    }
+
+-- what is known while a search from any seeds looks at the hops of the node v at the place `head`
+pub record Looking (g : Network) (free : List Bool) (head : ℕ) (order₀ parent₀ rank₀ : List ℕ) (hops : List Hop) (i v : ℕ) (order parent rank : List ℕ) : Type 0 where
+  pub ranks : AreRanked g.nodes free order rank
+  pub parents : length parent ≡ g.nodes
+  pub place : head < length order
+  pub node : entry_at order head ≡ v
+  pub searches : (seeds : List ℕ) → IsSearch g free seeds head order₀ parent₀ rank₀ → IsSearch g free seeds head order parent rank
+  pub looked : (k : ℕ) (d : Hop) → k < i → mark_of free (get_or hops k d).node ≡ true → entry_at rank (get_or hops k d).node < g.nodes
+
 -- before the first hop
-pub visits_none : (hops : List Hop) (seen : List Bool) (todo : List ℕ) → Visits hops 0 seen seen todo todo
-visits_none hops seen todo = record { same_length = refl; keeps = λ u h. h; reached = λ k d l. absurd (omega arith); news = λ u h. inl h; todo_kept = λ u h. h; todo_news = λ u h. inl h; balance = refl }
+pub looking_none : (g : Network) (free : List Bool) (head v : ℕ) (order parent rank : List ℕ) (hops : List Hop) → AreRanked g.nodes free order rank → length parent ≡ g.nodes → head < length order
+    → entry_at order head ≡ v → Looking g free head order parent rank hops 0 v order parent rank
+looking_none g free head v order parent rank hops ranks parents place node = record { ranks = ranks; parents = parents; place = place; node = node; searches = λ seeds s. s; looked = λ k d l. absurd (omega arith) }
 
--- a hop to a node with a mark
-pub visits_skip : (hops : List Hop) (i : ℕ) (seen seen' : List Bool) (todo todo' : List ℕ) (e : Hop) → i < length hops → mark_of seen' (get_or hops i e).node ≡ true → Visits hops i seen seen' todo todo' → Visits hops (i + 1) seen seen' todo todo'
-visits_skip hops i seen seen' todo todo' e l marked v = record {
-  same_length = v.same_length;
-  keeps = v.keeps;
-  reached = λ k d lt. elim (cases_eq k i) [
-    | inl same ↦ ap (λ x. mark_of seen' (get_or hops x d).node) same ∙ (ap (λ (h : Hop). mark_of seen' h.node) (get_or_default hops i d e l) ∙ marked)
-    | inr ne ↦ v.reached k d (omega arith)
-  ];
-  news = v.news;
-  todo_kept = v.todo_kept;
-  todo_news = v.todo_news;
-  balance = v.balance;
-}
-
--- a hop to a node without
-pub visits_mark : (hops : List Hop) (i : ℕ) (seen seen' : List Bool) (todo todo' : List ℕ) (e : Hop) (w : ℕ) → i < length hops → w ≡ (get_or hops i e).node → w < length seen' → mark_of seen' w ≡ false → Visits hops i seen seen' todo todo'
-    → Visits hops (i + 1) seen (set seen' w true) todo (todo' ++ w ∷ [])
-visits_mark hops i seen seen' todo todo' e w l w_is bound bare v = record {
-  same_length = length-set seen' w true ∙ v.same_length;
-  keeps = λ u h. kept u (v.keeps u h);
-  reached = λ k d lt. elim (cases_eq k i) [
-    | inl same ↦ ap (λ x. mark_of (set seen' w true) (get_or hops x d).node) same ∙ (ap (λ (h : Hop). mark_of (set seen' w true) h.node) (get_or_default hops i d e l) ∙ (ap (mark_of (set seen' w true)) (sym w_is) ∙ get_or-set_same seen' w true false bound))
-    | inr ne ↦ kept _ (v.reached k d (omega arith))
-  ];
-  news = λ u h. elim (cases_eq u w) [
-    | inl same ↦ inr (rw same (Contains-push todo' w), (i, l, λ d. ap (λ (x : Hop). x.node) (get_or_default hops i d e l) ∙ sym (same ∙ w_is)))
-    | inr ne ↦ elim (v.news u (sym (get_or-set_other seen' w u true false ne) ∙ h)) [ inl old ↦ inl old | inr new ↦ inr (Contains-append_left todo' (w ∷ []) u new.0, new.1) ]
-  ];
-  todo_kept = λ u h. Contains-append_left todo' (w ∷ []) u (v.todo_kept u h);
-  todo_news = λ u h. elim (Contains-push_cases todo' w u h) [
-    | inl old ↦ elim (v.todo_news u old) [ inl a ↦ inl a | inr b ↦ inr (kept u b) ]
-    | inr same ↦ inr (ap (mark_of (set seen' w true)) (sym same) ∙ get_or-set_same seen' w true false bound)
-  ];
-  balance = omega (arith, unseen-set seen' w bound bare, length_push todo' w, v.balance);
-}
-  where
-    kept : (u : ℕ) → mark_of seen' u ≡ true → mark_of (set seen' w true) u ≡ true
-    kept u h = elim (cases_eq u w) [
-      | inl same ↦ ap (mark_of (set seen' w true)) same ∙ get_or-set_same seen' w true false bound
-      | inr ne ↦ get_or-set_other seen' w u true false ne ∙ h
-    ]
-
--- the marks of a search from node 0, and the nodes that it has to do
-pub record Found (g : Network) (seen : List Bool) (todo : List ℕ) : Type 0 where
-  pub size : length seen ≡ g.nodes
-  pub start : mark_of seen 0 ≡ true
-  pub sound : (u : ℕ) → mark_of seen u ≡ true → Reaches g everything 0 u
-  pub todo_in : (u : ℕ) → Contains todo u → mark_of seen u ≡ true
-  pub closed : (u w : ℕ) → mark_of seen u ≡ true → IsTrue (linked g u w) → (mark_of seen w ≡ true) ⊎ Contains todo u
-
--- a marked number is a node
-marked_below : (seen : List Bool) (u : ℕ) → mark_of seen u ≡ true → u < length seen
-marked_below seen u h = elim (cases_lt u (length seen)) [ inl l ↦ l | inr ge ↦ absurd (both_ways (mark_of seen u) (get_or_past seen u false ge) h) ]
-
--- a hop leads to a node that is linked
-leads_linked : (links : List Link) (v u : ℕ) (hops : List Hop) → AreHops links v hops → LeadsTo hops u → any_joins links v u ≡ true
-leads_linked links v u hops are to =
-    let e : Hop = record { node = 0; link = 0 } in
-    any_joins-from links (get_or hops to.0 e).link v u (subst (λ x. JoinsAt links (get_or hops to.0 e).link v x) (to.2 e) (are.sound to.0 e to.1))
-
--- after all hops each node that is linked has a mark
-reached_all : (g : Network) (v w : ℕ) (hops : List Hop) (seen seen' : List Bool) (todo todo' : List ℕ) → AreHops g.links v hops → Visits hops (length hops) seen seen' todo todo' → IsTrue (linked g v w) → mark_of seen' w ≡ true
-reached_all g v w hops seen seen' todo todo' are vis l =
-    let at = any_joins_gives g.links v w l in
-    let there = are.complete at.0 w at.1 in
-    let hop : Hop = record { node = w; link = at.0 } in
-    ap (λ (h : Hop). mark_of seen' h.node) (sym there.2) ∙ vis.reached there.0 hop there.1
-
--- a node done: its hops have marks
-pub found_more : (g : Network) (v : ℕ) (hops : List Hop) (seen seen' : List Bool) (rest todo' : List ℕ) → AreHops g.links v hops → Found g seen (rest ++ v ∷ []) → Visits hops (length hops) seen seen' rest todo' → Found g seen' todo'
-found_more g v hops seen seen' rest todo' are f vis = record {
-  size = vis.same_length ∙ f.size;
-  start = vis.keeps 0 f.start;
-  sound = λ u h. elim (vis.news u h) [
-    | inl old ↦ f.sound u old
-    | inr new ↦ Reaches-step g everything 0 v u (f.sound v (f.todo_in v (Contains-push rest v))) (leads_linked g.links v u hops are new.1) refl
-  ];
-  todo_in = λ u h. elim (vis.todo_news u h) [ inl old ↦ vis.keeps u (f.todo_in u (Contains-append_left rest (v ∷ []) u old)) | inr marked ↦ marked ];
-  closed = λ u w h l. elim (vis.news u h) [
-    | inl old ↦ elim (f.closed u w old l) [
-      | inl marked ↦ inl (vis.keeps w marked)
-      | inr waits ↦ elim (Contains-push_cases rest v u waits) [
-        | inl in_rest ↦ inr (vis.todo_kept u in_rest)
-        | inr same ↦ inl (reached_all g v w hops seen seen' rest todo' are vis (subst (λ x. IsTrue (linked g x w)) (sym same) l))
-      ]
-    ]
-    | inr new ↦ inr new.0
+-- a hop to a node that is not free, or that has its rank
+pub looking_past : (g : Network) (free : List Bool) (head : ℕ) (order₀ parent₀ rank₀ : List ℕ) (hops : List Hop) (i v : ℕ) (order parent rank : List ℕ) (e : Hop) → i < length hops
+    → (mark_of free (get_or hops i e).node ≡ true → entry_at rank (get_or hops i e).node < g.nodes)
+    → Looking g free head order₀ parent₀ rank₀ hops i v order parent rank → Looking g free head order₀ parent₀ rank₀ hops (i + 1) v order parent rank
+looking_past g free head order₀ parent₀ rank₀ hops i v order parent rank e l known s = record {
+  ranks = s.ranks;
+  parents = s.parents;
+  place = s.place;
+  node = s.node;
+  searches = s.searches;
+  looked = λ k d before. elim (cases_eq k i) [
+    | inl same ↦ rw (same, sym (get_or_default hops i e d l)) known
+    | inr other ↦ s.looked k d (omega arith)
   ];
 }
 
--- with nothing left to do, what has no mark is not reached
-marks_all : (g : Network) (seen : List Bool) (a : ℕ) (p : List ℕ) → Found g seen [] → mark_of seen a ≡ true → StepsFrom g a p → mark_of seen (end_of a p) ≡ true
-marks_all g seen a [] f m s = m
-marks_all g seen a (b ∷ p) f m s = elim (f.closed a b m s.0) [ inl h ↦ marks_all g seen b p f h s.1 | inr h ↦ absurd (omega (arith, h.1)) ]
+-- a hop to a free node without rank
+pub looking_more : (g : Network) (free : List Bool) (head : ℕ) (order₀ parent₀ rank₀ : List ℕ) (hops : List Hop) (i v w : ℕ) (order parent rank : List ℕ) (e : Hop) → IsGraph g → AreHops g.links v hops → i < length hops
+    → (get_or hops i e).node ≡ w → mark_of free w ≡ true → g.nodes ≤ entry_at rank w
+    → Looking g free head order₀ parent₀ rank₀ hops i v order parent rank → Looking g free head order₀ parent₀ rank₀ hops (i + 1) v (order ++ w ∷ []) (set parent w v) (set rank w (length order))
+looking_more g free head order₀ parent₀ rank₀ hops i v w order parent rank e graph are l hop_is is_free bare s =
+    let joined : any_joins g.links v w ≡ true = any_joins-from g.links (get_or hops i e).link v w (subst (λ x. JoinsAt g.links (get_or hops i e).link v x) hop_is (are.sound i e l)) in
+    let below : w < g.nodes = (linked_below g.nodes g.links v w graph joined).1 in
+    let size : w < length rank = omega (arith, below, s.ranks.one_each) in
+    let room : length order < g.nodes = room_for g.nodes w free order rank s.ranks below bare in
+    record {
+      ranks = ranks_more g.nodes w free order rank s.ranks below bare is_free;
+      parents = length-set parent w v ∙ s.parents;
+      place = omega (arith, s.place, length_push order w);
+      node = at_before order w head s.place ∙ s.node;
+      searches = λ seeds before. subst (λ u. IsSearch g free seeds head (order ++ w ∷ []) (set parent w u) (set rank w (length order))) s.node
+          (search_more g free seeds head w order parent rank (s.searches seeds before) s.place below (rw s.node joined) is_free bare);
+      looked = λ k d before k_free. elim (cases_eq (get_or hops k d).node w) [
+        | inl same ↦ rw (same, get_or-set_same rank w (length order) 0 size) room
+        | inr other ↦ rw (get_or-set_other rank w (get_or hops k d).node (length order) 0 other) (elim (cases_eq k i) [
+          | inl at_i ↦ absurd (other (ap (λ x. (get_or hops x d).node) at_i ∙ (ap (λ (h : Hop). h.node) (get_or_default hops i d e l) ∙ hop_is)))
+          | inr before_i ↦ s.looked k d (omega arith) k_free
+        ])
+      ];
+    }
 
--- at the end a node without a mark is apart
-pub unmarked_apart : (g : Network) (seen : List Bool) (v : ℕ) → Found g seen [] → mark_of seen v ≡ false → Reaches g everything 0 v → ⊥
-unmarked_apart g seen v f bare h = both_ways (mark_of seen v) bare (ap (mark_of seen) (sym h.3) ∙ marks_all g seen 0 h.0 f f.start h.1)
-
--- at the end, where all have marks, the graph is connected
-pub all_marked : (g : Network) (seen : List Bool) → Found g seen [] → ((v : ℕ) → v < g.nodes → mark_of seen v ≡ true) → IsConnected g
-all_marked g seen f all = λ a b la lb ta tb. Reaches-trans g everything a 0 b (Reaches_comm g everything 0 a refl (f.sound a (all a la))) (f.sound b (all b lb))
-
--- what is to do is a node
-pub todo_below : (g : Network) (seen : List Bool) (rest : List ℕ) (v : ℕ) → Found g seen (rest ++ v ∷ []) → v < g.nodes
-todo_below g seen rest v f = let l = marked_below seen v (f.todo_in v (Contains-push rest v)) in omega (arith, l, f.size)
+-- after all hops the search has looked at one node more
+pub looking_done : (g : Network) (free : List Bool) (head : ℕ) (order₀ parent₀ rank₀ : List ℕ) (hops : List Hop) (v : ℕ) (order parent rank : List ℕ) (seeds : List ℕ) → AreHops g.links v hops
+    → Looking g free head order₀ parent₀ rank₀ hops (length hops) v order parent rank → IsSearch g free seeds head order₀ parent₀ rank₀ → IsSearch g free seeds (head + 1) order parent rank
+looking_done g free head order₀ parent₀ rank₀ hops v order parent rank seeds are s before =
+    let now = s.searches seeds before in
+    record {
+      ranks = now.ranks;
+      parents = now.parents;
+      begins = now.begins;
+      roots = now.roots;
+      steps = now.steps;
+      closed = λ k w l joined w_free. elim (cases_eq k head) [
+        | inl same ↦
+            let link : any_joins g.links v w ≡ true = rw (same, s.node) at joined in
+            let number = any_joins_gives g.links v w link in
+            let there = are.complete number.0 w number.1 in
+            let hop : Hop = record { node = w; link = number.0 } in
+            let hop_is : (get_or hops there.0 hop).node ≡ w = ap (λ (h : Hop). h.node) there.2 in
+            rw hop_is at (s.looked there.0 hop there.1 (rw hop_is w_free))
+        | inr other ↦ now.closed k w (omega arith) joined w_free
+      ];
+    }
 
 -- hops lead to nodes
 pub hops_below : (g : Network) (v : ℕ) (hops : List Hop) (n : ℕ) → IsGraph g → AreHops g.links v hops → n ≡ g.nodes → All (λ h. h.node < n) hops
 hops_below g v hops n graph are same k d l =
     let ends = linked_below g.nodes g.links v (get_or hops k d).node graph (any_joins-from g.links (get_or hops k d).link v (get_or hops k d).node (are.sound k d l)) in
     omega (arith, ends.1, same)
+
+-- ---- the seeds
+
+-- a search that has reached the first i seeds
+pub record Planting (n : ℕ) (seeds : List ℕ) (i : ℕ) (order parent rank : List ℕ) : Type 0 where
+  pub first : order ≡ take i seeds
+  pub parents : length parent ≡ n
+  pub rank_each : length rank ≡ n
+  pub ranks : (free : List Bool) → All (λ v. mark_of free v ≡ true) seeds → AreRanked n free order rank
+  pub roots : (k : ℕ) → k < i → entry_at parent (entry_at seeds k) ≡ entry_at seeds k
+
+-- before the first seed
+pub planting_none : (n : ℕ) (seeds parent rank : List ℕ) → parent ≡ replicate n 0 → rank ≡ replicate n n → Planting n seeds 0 [] parent rank
+planting_none n seeds parent rank parents ranks = record {
+  first = refl;
+  parents = ap (λ xs. length xs) parents ∙ length-replicate n 0;
+  rank_each = ap (λ xs. length xs) ranks ∙ length-replicate n n;
+  ranks = λ free marks. rw ranks (none_ranked n free);
+  roots = λ k l. absurd (omega arith);
+}
+
+-- no more seeds than nodes are reached
+pub planting_few : (n : ℕ) (seeds : List ℕ) (i : ℕ) (order parent rank : List ℕ) → All (λ v. v < n) seeds → Planting n seeds i order parent rank → length order ≤ n
+planting_few n seeds i order parent rank nodes p = few_ranked n (replicate n true) order rank (p.ranks (replicate n true) (λ k d l. get_or-replicate n (get_or seeds k d) true false (nodes k d l)))
+
+-- one seed more, which differs from those before
+pub planting_more : (n : ℕ) (seeds : List ℕ) (i s : ℕ) (order parent rank : List ℕ) → i < length seeds → s ≡ entry_at seeds i → s < n → AllPairs (λ u v. u ≢ v) seeds → Planting n seeds i order parent rank
+    → Planting n seeds (i + 1) (order ++ s ∷ []) (set parent s s) (set rank s (length order))
+planting_more n seeds i s order parent rank l seed below different p =
+    let len : length order ≡ i = ap length p.first ∙ length-take-le i seeds (omega arith) in
+    let earlier : (k : ℕ) → k < i → entry_at order k ≡ entry_at seeds k = λ k lt. ap (λ xs. entry_at xs k) p.first ∙ get_or-take i seeds k 0 lt in
+    let bare : (free : List Bool) → AreRanked n free order rank → n ≤ entry_at rank s = λ free are. elim (cases_lt (entry_at rank s) n) [
+      | inr ge ↦ ge
+      | inl lt ↦
+          let old = are.placed s below lt in
+          let before : entry_at rank s < i = omega (arith, old.0, len) in
+          absurd (different (entry_at rank s) i 0 before l (sym (earlier (entry_at rank s) before) ∙ (old.1 ∙ seed)))
+    ] in
+    record {
+      first = ap₂ (λ xs x. xs ++ x ∷ []) p.first seed ∙ sym (take_more seeds i 0 l);
+      parents = length-set parent s s ∙ p.parents;
+      rank_each = length-set rank s (length order) ∙ p.rank_each;
+      ranks = λ free marks. ranks_more n s free order rank (p.ranks free marks) below (bare free (p.ranks free marks)) (rw seed (marks i 0 l));
+      roots = λ k lt. elim (cases_eq (entry_at seeds k) s) [
+        | inl same ↦ rw same (get_or-set_same parent s s 0 (omega (arith, below, p.parents)))
+        | inr other ↦ rw (get_or-set_other parent s (entry_at seeds k) s 0 other) (elim (cases_eq k i) [
+          | inl at_i ↦ absurd (other (ap (entry_at seeds) at_i ∙ sym seed))
+          | inr before ↦ p.roots k (omega arith)
+        ])
+      ];
+    }
+
+-- every seed is its own parent
+pub planted_roots : (n : ℕ) (seeds : List ℕ) (i : ℕ) (order parent rank : List ℕ) → length seeds ≤ i → Planting n seeds i order parent rank → All (λ v. entry_at parent v ≡ v) seeds
+planted_roots n seeds i order parent rank all p k d l = rw (get_or_default seeds k d 0 l) (p.roots k (omega (arith, l, all)))
+
+-- a search that has reached its seeds and looked at nothing
+pub planted : (g : Network) (free : List Bool) (seeds order parent rank : List ℕ) → order ≡ seeds → AreRanked g.nodes free order rank → length parent ≡ g.nodes → All (λ v. entry_at parent v ≡ v) seeds
+    → IsSearch g free seeds 0 order parent rank
+planted g free seeds order parent rank same ranks parents roots = record {
+  ranks = ranks;
+  parents = parents;
+  begins = λ k l. rw same (l, refl);
+  roots = λ k l. rw same (roots k 0 l);
+  steps = λ k least l. let all : k < length seeds = rw same at l in absurd (omega arith);
+  closed = λ k w l. absurd (omega arith);
+}
+
+-- ---- the whole search from one node, where all nodes are free
+
+-- a walk leads to each node that the search has reached
+search_reaches : (g : Network) (free : List Bool) (head x : ℕ) (order parent rank : List ℕ) → IsGraph g → IsSearch g free (x ∷ []) head order parent rank → (b k : ℕ) → k < b → k < length order → Reaches g everything x (entry_at order k)
+search_reaches g free head x order parent rank graph s zero k lt l = absurd (omega arith)
+search_reaches g free head x order parent rank graph s (suc b) zero lt l = ([], tt, tt, sym (s.begins 0 (omega arith)).1)
+search_reaches g free head x order parent rank graph s (suc b) (suc k) lt l =
+    let step = s.steps (suc k) (omega arith) l in
+    let p = entry_at parent (entry_at order (suc k)) in
+    let node : p < g.nodes = (linked_below g.nodes g.links p (entry_at order (suc k)) graph step.1).0 in
+    let at = s.ranks.placed p node (omega (arith, step.0, l, few_ranked g.nodes free order rank s.ranks)) in
+    Reaches-step g everything x p (entry_at order (suc k)) (subst (Reaches g everything x) at.1 (search_reaches g free head x order parent rank graph s b (entry_at rank p) (omega (arith, step.0, lt)) at.0)) step.1 refl
+
+-- the search has reached what a walk leads to
+walk_reached : (g : Network) (free : List Bool) (seeds order parent rank : List ℕ) → IsGraph g → IsSearch g free seeds (length order) order parent rank → ((v : ℕ) → v < g.nodes → mark_of free v ≡ true)
+    → (a : ℕ) (p : List ℕ) → a < g.nodes → entry_at rank a < g.nodes → StepsFrom g a p → entry_at rank (end_of a p) < g.nodes
+walk_reached g free seeds order parent rank graph s all a [] node ranked steps = ranked
+walk_reached g free seeds order parent rank graph s all a (b ∷ p) node ranked steps =
+    let at = s.ranks.placed a node ranked in
+    let next : b < g.nodes = (linked_below g.nodes g.links a b graph steps.0).1 in
+    walk_reached g free seeds order parent rank graph s all b p next (s.closed (entry_at rank a) b at.0 (rw at.1 steps.0) (all b next)) steps.1
+
+-- a node with a rank is reached
+pub ranked_reached : (g : Network) (free : List Bool) (head x v : ℕ) (order parent rank : List ℕ) → IsGraph g → IsSearch g free (x ∷ []) head order parent rank → v < g.nodes → entry_at rank v < g.nodes → Reaches g everything x v
+ranked_reached g free head x v order parent rank graph s node ranked =
+    let at = s.ranks.placed v node ranked in
+    subst (Reaches g everything x) at.1 (search_reaches g free head x order parent rank graph s (entry_at rank v + 1) (entry_at rank v) (omega arith) at.0)
+
+-- no walk leads to a node without
+pub unranked_apart : (g : Network) (free : List Bool) (x v : ℕ) (order parent rank : List ℕ) → IsGraph g → IsSearch g free (x ∷ []) (length order) order parent rank → ((w : ℕ) → w < g.nodes → mark_of free w ≡ true)
+    → g.nodes ≤ entry_at rank v → Reaches g everything x v → ⊥
+unranked_apart g free x v order parent rank graph s all bare walk =
+    let first = s.begins 0 (omega arith) in
+    let start = s.ranks.ranked 0 first.0 in
+    let node : x < g.nodes = rw first.1 at start.0 in
+    let place : entry_at rank x ≡ 0 = rw first.1 at start.1 in
+    let reached : entry_at rank (end_of x walk.0) < g.nodes = walk_reached g free (x ∷ []) order parent rank graph s all x walk.0 node (omega (arith, place, node)) walk.1 in
+    let ranked : entry_at rank v < g.nodes = rw walk.3 at reached in
+    omega (arith, bare, ranked)
+
+-- where walks lead from one node to all, the graph is connected
+pub connected_from : (g : Network) (x : ℕ) → ((v : ℕ) → v < g.nodes → Reaches g everything x v) → IsConnected g
+connected_from g x all = λ a b la lb ta tb. Reaches-trans g everything a x b (Reaches_comm g everything x a refl (all a la)) (all b lb)

@@ -15,15 +15,23 @@ in_order l = cond (nat_lt l.b l.a) (record { a = l.b; b = l.a }) l
 abbrev pub JoinsAt : List Link → ℕ → ℕ → ℕ → Type 0
 JoinsAt links i a b = (l : Link) × (slice_get links i ≡ Some l) × IsTrue (joins l a b)
 
+-- the neighbours ascend
+abbrev pub Ascend : List Hop → Type 0
+Ascend hops = AllPairs (λ h k. h.node < k.node) hops
+
 -- the neighbours of v, ascending, each with the number of its link
 pub record AreHops (links : List Link) (v : ℕ) (hops : List Hop) : Type 0 where
-  pub ascending : AllPairs (λ h k. h.node < k.node) hops
+  pub ascending : Ascend hops
   pub sound : All (λ h. JoinsAt links h.link v h.node) hops
   pub complete : (i w : ℕ) → JoinsAt links i v w → Contains hops (record { node = w; link = i })
 
 -- the rows are the neighbours of the nodes 0, 1, ..
 abbrev pub AreRows : List Link → List (Vec Hop Global) → Type 0
 AreRows links rows = (v : ℕ) (d : Vec Hop Global) → v < length rows → AreHops links v (slice_index_or rows v d).items
+
+-- in each row they do
+abbrev pub RowsAscend : List (Vec Hop Global) → Type 0
+RowsAscend rows = (v : ℕ) (d : Vec Hop Global) → v < length rows → Ascend (slice_index_or rows v d).items
 
 -- n nodes, these links, and the neighbours of each node
 pub record IsTable (n : ℕ) (links : List Link) (rows : List (Vec Hop Global)) : Type 0 where

@@ -131,13 +131,19 @@ impl Graph {
         &self.hops[v as usize]
     }
 
-    /// The number of the link between two nodes, where there is one. It takes no memory.
+    /// The number of the link between two nodes, where there is one. It takes no memory: a binary search among the neighbours of the node
+    /// that has fewer.
     pub fn between(&self, a: u32, b: u32) -> Option<u32>
         requires first { a < self.now.nodes }
         requires second { b < self.now.nodes }
         ensures found { IfSome result (λ i. JoinsAt self.now.links i a b) }
         ensures none { IfNone result (linked self.now a b ≡ false) }
     {
-        link_to(self.hops(a), b)
+        let (first, second) = (self.hops(a), self.hops(b));
+        if first.len() <= second.len() {
+            link_to(first, b)
+        } else {
+            link_to(second, a)
+        }
     }
 }

@@ -15,7 +15,7 @@ pub use memory::NoMemory;
 pub use node_set::NodeSet;
 pub use node_sets::NodeSets;
 pub use pocket::{Pocket, Pockets, need};
-pub use search::first_apart;
+pub use search::{Swept, first_apart, sweep};
 pub use words::Words;
 
 #[cfg(test)]

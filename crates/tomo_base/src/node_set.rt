@@ -42,6 +42,7 @@ impl NodeSet {
         requires { v < node_limit }
         ensures nodes { OnOk result ((w : ℕ) → has self.new w ≡ ((v == w) || has self.old w)) }
         ensures new { IfOk result (λ new. new ≡ not (has self.old v)) }
+        ensures ascending { OnOk result (IsStrictlyIncreasing self.new) }
         ensures err { OnErr result (self.new ≡ self.old) }
     {
         match self.nodes.binary_search(&v) {

@@ -1,6 +1,6 @@
 // Small graphs and sets, where memory is ample.
 use crate::{
-    Graph, GraphFault, Link, NodeSet, NodeSets, Pocket, Pockets, Words, first_apart, need,
+    Graph, GraphFault, Link, NodeSet, NodeSets, Pocket, Pockets, Words, first_apart, need, sweep,
 };
 use std::alloc::Global;
 use std::test::Fail;
@@ -31,6 +31,9 @@ fn links_are_a_graph_or_have_a_fault(rt: HostRuntime) -> Result<(), Fail> {
     assert_eq!(rt; g.hops(1).len(), 2);
     let apart = Graph::new(alloc, 4, &CHAIN[..2]).expect(&rt, "no graph");
     assert_eq!(rt; first_apart(alloc, &apart)?, Some(3));
+    let found = sweep(alloc, &g, &[true, true, true, false], &[2])?;
+    assert_eq!(rt; found.order.as_slice(), [2, 1, 0].as_slice());
+    assert_eq!(rt; found.rank.as_slice(), [2, 1, 0, 4].as_slice());
     let faults = [
         (
             [Link { a: 0, b: 1 }, Link { a: 0, b: 3 }],

@@ -9,6 +9,7 @@ use Rattle.tomo_base.specs.declared.graph.GraphFault.{GraphFault}
 use Rattle.tomo_base.specs.declared.graph.GraphFault.TheVariants.{NoMemory, Range, Loop, Repeat}
 use Rattle.tomo_base.specs.Network.{Network, joins, any_joins, AreLinks}
 use Rattle.tomo_base.specs.Table.{in_order, IsFirstFault}
+use Rattle.tomo_base.proofs.Links.{link_at}
 use Rattle.tomo_base.proofs.Entering.{in_order_ends}
 use Rattle.tomo_base.proofs.Rows.{AreLinks-push}
 use Rattle.topology.specs.Topology.{link_between, same_link}
@@ -60,15 +61,6 @@ between_ordered n a b ne la lb = elim (in_order_ends (link_between (a, b))) [
 pub map-in_order : (n : ℕ) (ls : List Link) → AreLinks n ls → map in_order ls ≡ ls
 map-in_order n [] are = refl
 map-in_order n (l ∷ ls) are = ap₂ ◌∷◌ (rw (le-ltb l.b l.a (omega (arith, are.0))) refl) (map-in_order n ls are.3)
-
--- each link joins a lower to a higher node
-pub link_at : (n : ℕ) (ls : List Link) (i : ℕ) (l : Link) → AreLinks n ls → slice_get ls i ≡ Some l → (l.a < l.b) × (l.b < n)
-link_at n [] i l are at = cc
-link_at n (m ∷ ls) zero l are at = rw (← some at) (are.0, are.1)
-  where
-    some : {x y : Link} → Some x ≡ Some y → x ≡ y
-    some e = cc
-link_at n (m ∷ ls) (suc i) l are at = link_at n ls i l are.3 at
 
 -- no link before it joins the same two nodes
 pub none_before : (n : ℕ) (ls : List Link) (i : ℕ) (l : Link) → AreLinks n ls → slice_get ls i ≡ Some l → any_joins (take i ls) l.a l.b ≡ false

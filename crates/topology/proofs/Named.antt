@@ -1,14 +1,14 @@
 -- Which nodes the rows before a place name, one row on and at the end.
-use Rattle.std.proofs.Common.{◌≡◌, ◌≢◌, ℕ, zero, suc, ◌+◌, ◌<◌, ◌≤◌, Bool, true, false, ◌&&◌, ◌||◌, ◌==◌, nat_lt, List, [], ◌∷◌, ◌++◌, length, take, get_or, slice_get, refl, sym, ap, ◌∙◌, inl, inr, arith, AllPairs, bytes_eq, Some}
+use Rattle.std.proofs.Common.{◌≡◌, ◌≢◌, ℕ, ◌+◌, ◌<◌, ◌≤◌, Bool, false, ◌&&◌, ◌||◌, ◌==◌, nat_lt, List, [], ◌∷◌, length, take, get_or, slice_get, refl, sym, ap, ◌∙◌, inl, inr, arith, AllPairs, bytes_eq, Some}
 use Rattle.std.specs.List.{list_any}
 use Rattle.std.specs.List.Sorted.{IsStrictlyIncreasing}
-use Rattle.std.proofs.lemmas.Bool.{cases_Bool, cases_eq, cases_lt, both_ways, false_from_ne_true, ne_eqb, eq-eqb, lt-ltb, le-ltb}
-use Rattle.std.proofs.lemmas.List.{append-nil, take_more, take_all, get_or_append_left, get_or_push, length_push}
+use Rattle.std.proofs.lemmas.Bool.{cases_Bool, cases_eq, cases_lt, false_from_ne_true, ne_eqb, eq-eqb, lt-ltb, le-ltb}
+use Rattle.std.proofs.lemmas.List.{take_more, take_all}
 use Rattle.std.proofs.lemmas.List.Folds.{list_any-append, list_any-from_Any}
 use Rattle.std.proofs.lemmas.Option.{get_or_from_slice_get, slice_get_within}
 use Rattle.std.proofs.lemmas.Slice.Eq.{bytes_eq-Decides}
 use Rattle.tomo_base.specs.Sets.{has, members}
-use Rattle.tomo_base.proofs.Ascending.{has-at, same_list}
+use Rattle.tomo_base.proofs.Ascending.{same_list, members_ascend}
 use Rattle.tomo_base.proofs.Members.{members_below, has-members}
 use Rattle.rows.specs.Rows.{Row}
 use Rattle.topology.specs.declared.faults.MonFault.TheVariants.{Unknown}
@@ -58,28 +58,6 @@ unfolding has
 named_none names w = elim (cases_Bool (nat_lt w (length names))) [ inl e ↦ rw e refl | inr e ↦ rw e refl ]
 
 -- ---- as a list
-
--- an ascending list goes on ascending with a number above all of it
-increasing_push : (xs : List ℕ) (x : ℕ) → IsStrictlyIncreasing xs → ((v : ℕ) → has xs v ≡ true → v < x) → IsStrictlyIncreasing (xs ++ x ∷ [])
-increasing_push xs x up above k l = elim (cases_lt (k + 1) (length xs)) [
-  | inl lt ↦ (let here : k < length xs = omega arith in rw (get_or_append_left xs (x ∷ []) 0 k here, get_or_append_left xs (x ∷ []) 0 (k + 1) lt) (up k lt))
-  | inr ge ↦ (
-      let here : k < length xs = omega (arith, l, length_push xs x) in
-      let last : length xs ≡ k + 1 = omega (arith, ge, here) in
-      rw (get_or_append_left xs (x ∷ []) 0 k here, get_or_push xs x 0 (k + 1) last) (above (get_or xs k 0) (has-at xs k 0 here)))
-]
-
--- the members of a set ascend
-members_ascend : (n : ℕ) (q : ℕ → Bool) → IsStrictlyIncreasing (members n q)
-unfolding members
-members_ascend zero q = λ k l. absurd (omega arith)
-members_ascend (suc n) q = elim (cases_Bool (q n)) [
-  | inl e ↦ rw e (increasing_push (members n q) n (members_ascend n q) (below n q))
-  | inr e ↦ rw (e, append-nil (members n q)) (members_ascend n q)
-]
-  where
-    below : (m : ℕ) (p : ℕ → Bool) (v : ℕ) → has (members m p) v ≡ true → v < m
-    below m p v h = elim (cases_lt v m) [ inl lt ↦ lt | inr ge ↦ absurd (both_ways (has (members m p) v) (members_below m p v ge) h) ]
 
 -- an ascending list of the nodes that the rows name is their list
 pub monitors_are : (names : List (List ℕ)) (rows : List Row) (i : ℕ) (monitors : List ℕ) → length rows ≤ i → IsStrictlyIncreasing monitors → ((w : ℕ) → has monitors w ≡ is_named names (take i rows) w)

@@ -25,7 +25,5 @@ pub fn read_monitors(alloc: Global, t: &Topology, rows: &Rows) -> Result<NodeSet
         };
         monitors.insert(v)?;
     }
-    // The nodes that a set lends ascend, so this set is the one list of the monitors.
-    let _ascending = monitors.as_slice();
     Ok(monitors)
 }

@@ -1,37 +1,36 @@
-use Rattle.std.proofs.Common.{◌≡◌, ◌++◌, ◌∷◌, [], length, arith, sym, false}
-use Rattle.std.proofs.lemmas.List.{nil_from_length}
-use Rattle.tomo_base.specs.Search.{mark_of}
-use Rattle.tomo_base.proofs.Entering.{lent_back}
-use Rattle.tomo_base.proofs.Searching.{Found, found_more, todo_below, hops_below, unmarked_apart, all_marked}
+use Rattle.std.proofs.Common.{◌≡◌, ◌<◌, ◌∙◌, length, true, replicate, arith, inl, inr, sym, ap}
+use Rattle.std.proofs.lemmas.Bool.{cases_eq}
+use Rattle.std.proofs.lemmas.List.{get_or_default, get_or-replicate}
+use Rattle.tomo_base.specs.Search.{mark_of, entry_at}
+use Rattle.tomo_base.proofs.Searching.{ranked_reached, unranked_apart, connected_from}
 use Rattle.tomo_base.proofs.search.first_apart.Goals as goal
 
-pub hops-requires : goal.hops-requires
-hops-requires c = todo_below _ _ _ _ (rw c.in-Some.ensures.items at c.loop-v.invariant)
+pub returns-then-index-n-clause-apart : goal.returns-then-index-n-clause-apart
+returns-then-index-n-clause-apart c =
+    let g = c.args.g.now in
+    let n = c.nodes-n.result in
+    let rank = c.in_ok-found.found.rank.items in
+    let lent : c.deref.result.now ≡ replicate n true = c.deref.ensures.value ∙ c.in_ok-free.ensures.items_if_clones_equal (λ y h. h) in
+    let room : c.loop-v.v < length rank = omega (arith, c.loop-v-test.true, c.nodes-n.ensures.nodes, c.in_ok-found.ensures.ranks.one_each) in
+    let rank_is : entry_at rank c.loop-v.v ≡ c.index.result.now = get_or_default rank c.loop-v.v 0 _ room ∙ sym c.index.ensures in
+    unranked_apart g c.deref.result.now 0 c.loop-v.v _ _ _ c.nodes-n.ensures.graph c.in_ok-found.ensures (λ w l. ap (λ xs. mark_of xs w) lent ∙ get_or-replicate n w true _ (omega (arith, l, c.nodes-n.ensures.nodes)))
+    (omega (arith, rank_is, c.if-index-n.true, c.nodes-n.ensures.nodes))
 
-pub visit-requires : goal.visit-requires
-visit-requires c =
-    let lent : c.deref_mut.result.now ≡ c.loop-v.seen.items = c.deref_mut.ensures.value in
-    rw lent (hops_below c.args.g.now c.in-Some.v c.hops.result.now (length c.loop-v.seen.items) c.nodes-count.ensures.graph c.hops.ensures c.loop-v.invariant.size)
+pub returns-then-index-n-clause-least : goal.returns-then-index-n-clause-least
+returns-then-index-n-clause-least c = λ w l. ranked_reached c.args.g.now c.deref.result.now _ 0 w _ _ _ c.nodes-n.ensures.graph c.in_ok-found.ensures (omega (arith, l, c.loop-v-test.true, c.nodes-n.ensures.nodes))
+    (omega (arith, c.loop-v.invariant w l, c.nodes-n.ensures.nodes))
 
 pub loop-v-preserved : goal.loop-v-preserved
 loop-v-preserved c =
-    let lent : c.deref_mut.result.now ≡ c.loop-v.seen.items = c.deref_mut.ensures.value in
-    let visits = rw lent at c.in_ok-visit.ensures in
-    let before : Found c.args.g.now c.loop-v.seen.items (c.pop.new.self.items ++ c.in-Some.v ∷ []) = rw c.in-Some.ensures.items at c.loop-v.invariant in
-    let len : length c.visit.new.seen ≡ c.loop-v.seen.len = omega (arith, visits.same_length, c.loop-v.seen.ok) in
-    rw (lent_back c.loop-v.seen.len c.visit.new.seen c.loop-v.seen.items len)
-    (found_more c.args.g.now c.in-Some.v c.hops.result.now c.loop-v.seen.items c.visit.new.seen c.pop.new.self.items c.visit.new.todo.items c.hops.ensures before visits)
-
-pub returns-then-not-index-clause-apart : goal.returns-then-not-index-clause-apart
-returns-then-not-index-clause-apart c =
-    let empty : c.loop-v.todo.items ≡ [] = nil_from_length c.loop-v.todo.items (omega (arith, c.in_default.ensures.cases.0, c.loop-v.todo.ok)) in
-    let bare : mark_of c.loop-v.seen.items c.loop-v-2.v ≡ false = sym (rw c.if-not-index.true at c.index.ensures) in
-    unmarked_apart c.args.g.now c.loop-v.seen.items c.loop-v-2.v (rw empty at c.loop-v.invariant) bare
-
-pub returns-then-not-index-clause-least : goal.returns-then-not-index-clause-least
-returns-then-not-index-clause-least c = λ w l. c.loop-v.invariant.sound w (c.loop-v-2.invariant w l)
+    let rank = c.in_ok-found.found.rank.items in
+    let below : c.loop-v.v < c.args.g.now.nodes = omega (arith, c.loop-v-test.true, c.nodes-n.ensures.nodes) in
+    let room : c.loop-v.v < length rank = omega (arith, below, c.in_ok-found.ensures.ranks.one_each) in
+    let rank_is : entry_at rank c.loop-v.v ≡ c.index.result.now = get_or_default rank c.loop-v.v 0 _ room ∙ sym c.index.ensures in
+    λ w l. elim (cases_eq w c.loop-v.v) [
+      | inl same ↦ rw same (omega (arith, rank_is, c.if-index-n.false, c.in_ok-found.ensures.ranks.most c.loop-v.v below, c.nodes-n.ensures.nodes))
+      | inr other ↦ c.loop-v.invariant w (omega arith)
+    ]
 
 pub returns-clause-none : goal.returns-clause-none
-returns-clause-none c =
-    let empty : c.loop-v.todo.items ≡ [] = nil_from_length c.loop-v.todo.items (omega (arith, c.in_default.ensures.cases.0, c.loop-v.todo.ok)) in
-    all_marked c.args.g.now c.loop-v.seen.items (rw empty at c.loop-v.invariant) (λ v l. c.loop-v-2.invariant v (omega (arith, c.nodes-count.ensures.nodes)))
+returns-clause-none c = connected_from c.args.g.now 0 (λ v l. ranked_reached c.args.g.now c.deref.result.now _ 0 v _ _ _ c.nodes-n.ensures.graph c.in_ok-found.ensures l
+    (omega (arith, c.loop-v.invariant v (omega (arith, l, c.loop-v-test.false, c.loop-v.auto.v-end, c.nodes-n.ensures.nodes)), c.nodes-n.ensures.nodes)))

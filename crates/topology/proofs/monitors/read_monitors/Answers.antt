@@ -4,12 +4,12 @@ use Rattle.topology.proofs.Named.{read_none, read_more, first_unknown, monitors_
 use Rattle.topology.proofs.monitors.read_monitors.Goals as goal
 
 pub loop-place-init : goal.loop-place-init
-loop-place-init c = read_none c.args.t.now.names c.args.rows.now.closed c.new-monitors.result c.new-monitors.ensures
+loop-place-init c = (read_none c.args.t.now.names c.args.rows.now.closed c.new-monitors.result c.new-monitors.ensures, rw c.new-monitors.ensures (λ k l. absurd (omega arith)))
 
 pub returns-in_default-clause-fault : goal.returns-in_default-clause-fault
 returns-in_default-clause-fault c =
     let within : c.loop-place.place < length c.args.rows.now.closed = omega (arith, c.loop-place-test.true, c.len-place-end.ensures.len) in
-    first_unknown c.args.t.now.names c.args.rows.now.closed c.loop-place.place c.loop-place.invariant.known within (rw c.at.ensures at c.in_default.ensures.none)
+    first_unknown c.args.t.now.names c.args.rows.now.closed c.loop-place.place c.loop-place.invariant.0.known within (rw c.at.ensures at c.in_default.ensures.none)
 
 pub insert-requires : goal.insert-requires
 insert-requires c =
@@ -19,9 +19,9 @@ insert-requires c =
 pub loop-place-preserved : goal.loop-place-preserved
 loop-place-preserved c =
     let within : c.loop-place.place < length c.args.rows.now.closed = omega (arith, c.loop-place-test.true, c.len-place-end.ensures.len) in
-    read_more c.args.t.now.names c.args.rows.now.closed c.loop-place.monitors c.insert.new.self c.loop-place.place c.in-Some.v c.in-Some.ensures.topology.different within
-    (rw c.at.ensures at c.in-Some.ensures.found) c.in_ok-insert.ensures.nodes c.loop-place.invariant
+    (read_more c.args.t.now.names c.args.rows.now.closed c.loop-place.monitors c.insert.new.self c.loop-place.place c.in-Some.v c.in-Some.ensures.topology.different within
+    (rw c.at.ensures at c.in-Some.ensures.found) c.in_ok-insert.ensures.nodes c.loop-place.invariant.0, c.in_ok-insert.ensures.ascending)
 
 pub returns-clause-monitors : goal.returns-clause-monitors
 returns-clause-monitors c = monitors_are c.args.t.now.names c.args.rows.now.closed c.loop-place.place c.loop-place.monitors (omega (arith, c.loop-place-test.false, c.len-place-end.ensures.len))
-    c.as_slice-ascending.ensures.ascending c.loop-place.invariant.named
+    c.loop-place.invariant.1 c.loop-place.invariant.0.named

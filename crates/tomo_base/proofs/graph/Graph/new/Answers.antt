@@ -33,6 +33,19 @@ returns-then-link-clause-fault c =
     let ends = loop_ends c.args.n l c.turned-link.result c.turned-link.ensures c.if-link.true c.if-link-n.false in
     (l, first_at _ _ _ _ _ c.loop-i-test.true c.loop-i.invariant.kept c.loop-i.invariant.fine, ends.0, ends.1)
 
+pub link_to-requires : goal.link_to-requires
+link_to-requires c =
+    let l : Link = get_or c.args.links.now c.loop-i.i (record { a = 0; b = 0 }) in
+    let ends = two_ends c.args.n l c.turned-link.result c.turned-link.ensures c.if-link.false c.if-link-n.false in
+    let hops : AreHops c.loop-i.kept.items c.turned-link.result.a c.deref.result.now = row_read _ _ _ _ _ c.loop-i.invariant.hops (omega (arith, ends.3, c.loop-i.invariant.one_each, c.if-link-n.false)) c.index.ensures c.deref.ensures.value in
+    hops.ascending
+
+pub enter-requires-clause-rows : goal.enter-requires-clause-rows
+enter-requires-clause-rows c =
+    let lent : c.deref_mut.result.now ≡ c.loop-i.rows.items = c.deref_mut.ensures.value in
+    let rows : AreRows c.loop-i.kept.items c.deref_mut.result.now = rw lent c.loop-i.invariant.hops in
+    λ v d l. (rows v d l).ascending
+
 pub returns-then-is_some-clause-fault : goal.returns-then-is_some-clause-fault
 returns-then-is_some-clause-fault c =
     let l : Link = get_or c.args.links.now c.loop-i.i (record { a = 0; b = 0 }) in

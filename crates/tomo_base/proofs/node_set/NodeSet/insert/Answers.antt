@@ -24,3 +24,6 @@ pub returns-in_ok-insert-in-Err-clause-new : goal.returns-in_ok-insert-in-Err-cl
 returns-in_ok-insert-in-Err-clause-new c =
     let new : has c.args.self.now c.args.v ≡ false = ap (λ xs. has xs c.args.v) (sym c.self.view_is) ∙ belongs_new c.self.inside.nodes.items c.in-Err.place c.args.v (belongs_at _ _ _ c.self.invariant (rw c.deref.ensures.value at c.in-Err.ensures.position)) in
     ap not (sym new)
+
+pub returns-in_ok-insert-in-Err-clause-ascending : goal.returns-in_ok-insert-in-Err-clause-ascending
+returns-in_ok-insert-in-Err-clause-ascending c = (invariant_of-self-in-Err c).ascending

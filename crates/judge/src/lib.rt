@@ -1,0 +1,8 @@
+//! Whether monitors identify every link, and if not, where they cannot see.
+#![tactic(auto)]
+
+mod monitors;
+#[cfg(test)]
+mod tests;
+
+pub use monitors::{Verdict, judge};

@@ -3,3 +3,4 @@ pub mod Shape
 pub mod Gathering
 pub mod Ending
 pub mod Taking
+pub mod Naming

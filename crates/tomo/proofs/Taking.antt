@@ -14,14 +14,13 @@ use Rattle.tomo.specs.declared.machine.Wants.{Wants}
 use Rattle.tomo.specs.declared.machine.Next.{Next}
 use Rattle.tomo.specs.Refusals.{refused}
 use Rattle.tomo.specs.declared.narrow.Narrow.{Narrow}
-use Rattle.tomo.specs.declared.table.Command.{Command}
 use Rattle.tomo.specs.declared.table.Command.TheVariants.{Plan}
 use Rattle.tomo.specs.declared.machine.Inputs.TheVariants as inputs
 use Rattle.tomo.specs.declared.machine.End.TheVariants.{Ready, Refused}
 use Rattle.tomo.specs.declared.machine.Next.TheVariants.{Stop}
 
 -- what stands at a place
-some_at : (xs : List (List ℕ)) (i : ℕ) (x : List ℕ) → slice_get xs i ≡ Some x → get_or xs i [] ≡ x
+pub some_at : (xs : List (List ℕ)) (i : ℕ) (x : List ℕ) → slice_get xs i ≡ Some x → get_or xs i [] ≡ x
 some_at [] i x h = absurd (none h)
   where
     none : None ≡ Some x → ⊥
@@ -30,13 +29,13 @@ some_at (y ∷ ys) zero x h = cc h
 some_at (y ∷ ys) (suc i) x h = some_at ys i x h
 
 -- a network whose nodes have at most two neighbours is planned
-pub plan_ready : (command : Command) (name : List ℕ) (t : Topo) (n : Narrow) → n.topology ≡ t → WithTopology command name t (Stop (Ready (inputs.Plan n)))
-plan_ready Plan name t n same = inl (n, same, refl)
+pub plan_ready : (name : List ℕ) (t : Topo) (n : Narrow) → n.topology ≡ t → WithTopology Plan name t (Stop (Ready (inputs.Plan n)))
+plan_ready name t n same = inl (n, same, refl)
 
 -- any other is refused
-pub plan_refused : (command : Command) (name : List ℕ) (t : Topo) (v : ℕ) (place : List ℕ) (rows : RowList) → IsFirstHub t.graph v → slice_get t.names v ≡ Some place
-    → rows ≡ refused name (codes "degree") place → WithTopology command name t (Stop (Refused rows))
-plan_refused Plan name t v place rows hub there same = inr (v, hub, ap (λ r. Stop (Refused r)) (same ∙ ap (refused name (codes "degree")) (sym (some_at t.names v place there))))
+pub plan_refused : (name : List ℕ) (t : Topo) (v : ℕ) (place : List ℕ) (rows : RowList) → IsFirstHub t.graph v → slice_get t.names v ≡ Some place
+    → rows ≡ refused name (codes "degree") place → WithTopology Plan name t (Stop (Refused rows))
+plan_refused name t v place rows hub there same = inr (v, hub, ap (λ r. Stop (Refused r)) (same ∙ ap (refused name (codes "degree")) (sym (some_at t.names v place there))))
 
 -- a file within its limit does what its rows do
 steps_within : (wants : Wants) (name content : List ℕ) (next : Next) → length content ≤ limit (kind_of wants) → Takes wants name (rows_of content) next → Steps wants name content next

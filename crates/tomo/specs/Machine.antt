@@ -7,16 +7,23 @@ use Rattle.topology.specs.Topology.{Topo, IsTopology, names_of, topo_of}
 use Rattle.topology.specs.Faults.{AllFine, IsTopoFault, examined}
 use Rattle.topology.specs.declared.faults.TopoFault.{TopoFault}
 use Rattle.topology.specs.declared.faults.TopoFault.TheVariants as faults
+use Rattle.topology.specs.declared.faults.MonFault.{MonFault}
+use Rattle.topology.specs.declared.faults.MonFault.TheVariants as mon_faults
+use Rattle.topology.specs.Monitors.{AllKnown, IsMonFault, monitors_of}
 use Rattle.planner.specs.Narrow.{IsFirstHub}
 use Rattle.tomo.specs.Table.{limit, files_of}
-use Rattle.tomo.specs.Refusals.{refused, topology_reason, topology_place}
+use Rattle.tomo.specs.Refusals.{refused, topology_reason, topology_place, monitor_reason, monitor_place}
 use Rattle.tomo.specs.declared.table.Command.{Command}
-use Rattle.tomo.specs.declared.table.Command.TheVariants.{Plan}
+use Rattle.tomo.specs.declared.table.Command.TheVariants.{Plan, WithMonitors}
+use Rattle.tomo.specs.declared.table.MonitorTask.{MonitorTask}
+use Rattle.tomo.specs.declared.table.MonitorTask.TheVariants.{Judge}
 use Rattle.tomo.specs.declared.table.Kind.{Kind}
-use Rattle.tomo.specs.declared.table.Kind.TheVariants.{TopologyFile}
+use Rattle.tomo.specs.declared.table.Kind.TheVariants.{TopologyFile, MonitorFile}
 use Rattle.tomo.specs.declared.table.Shape.{Shape}
 use Rattle.tomo.specs.declared.narrow.Narrow.{Narrow}
+use Rattle.tomo.specs.declared.placed.Placed.{Placed}
 use Rattle.tomo.specs.declared.machine.Wants.{Wants}
+use Rattle.tomo.specs.declared.machine.Wants.TheVariants.{Topology, Monitors}
 use Rattle.tomo.specs.declared.machine.Inputs.TheVariants as inputs
 use Rattle.tomo.specs.declared.machine.End.TheVariants.{Ready, Refused}
 use Rattle.tomo.specs.declared.machine.Next.{Next}
@@ -24,15 +31,17 @@ use Rattle.tomo.specs.declared.machine.Next.TheVariants.{Ask, Stop}
 
 -- what the next file holds
 abbrev pub kind_of : Wants → Kind
-kind_of wants = TopologyFile
+kind_of (Topology command header) = TopologyFile
+kind_of (Monitors task topology) = MonitorFile
 
 -- how many files are still to be asked for
 abbrev pub files_left : Wants → ℕ
-files_left wants = length (files_of wants.command)
+files_left (Topology command header) = length (files_of command)
+files_left (Monitors task topology) = 1
 
 -- what a command wants first
 abbrev pub start : Shape → Next
-start shape = Ask (record { command = shape.command; header = shape.header })
+start shape = Ask (Topology shape.command shape.header)
 
 -- the rows are those of a topology, without a fault
 pub record IsRead (header : Bool) (rows : List Row) (t : Topo) : Type 0 where
@@ -45,13 +54,29 @@ abbrev pub WithTopology : Command → List ℕ → Topo → Next → Type 0
 WithTopology Plan name t next =
     ((n : Narrow) × (n.topology ≡ t) × (next ≡ Stop (Ready (inputs.Plan n))))
     ⊎ ((v : ℕ) × IsFirstHub t.graph v × (next ≡ Stop (Refused (refused name (codes "degree") (slice_index_or t.names v [])))))
+WithTopology (WithMonitors task) name t next = next ≡ Ask (Monitors task t)
 
--- what the rows of a file do: they are a topology, or refused for their first fault
+-- what the rows of a topology file do: they are a topology, or refused for their first fault
+abbrev pub TakesTopology : Command → Bool → List ℕ → List Row → Next → Type 0
+TakesTopology command header name rows next =
+    ((t : Topo) × IsRead header rows t × WithTopology command name t next)
+    ⊎ ((f : TopoFault) × (f ≢ faults.NoMemory) × IsTopoFault header rows f
+    × (next ≡ Stop (Refused (refused name (topology_reason f) (topology_place (names_of (examined header rows)) f)))))
+
+-- a task with its topology and monitors
+abbrev pub with_monitors : MonitorTask → Placed → Next
+with_monitors Judge p = Stop (Ready (inputs.Judge p))
+
+-- what the rows of a monitor file do: they name nodes, or are refused at the first that names none
+abbrev pub TakesMonitors : MonitorTask → Topo → List ℕ → List Row → Next → Type 0
+TakesMonitors task t name rows next =
+    (AllKnown t.names rows (length rows) × (p : Placed) × (p.topology ≡ t) × (p.monitors ≡ monitors_of t.names rows) × (next ≡ with_monitors task p))
+    ⊎ ((f : MonFault) × (f ≢ mon_faults.NoMemory) × IsMonFault t.names rows f × (next ≡ Stop (Refused (refused name (monitor_reason f) (monitor_place f)))))
+
+-- what the rows of a file do
 abbrev pub Takes : Wants → List ℕ → List Row → Next → Type 0
-Takes wants name rows next =
-    ((t : Topo) × IsRead wants.header rows t × WithTopology wants.command name t next)
-    ⊎ ((f : TopoFault) × (f ≢ faults.NoMemory) × IsTopoFault wants.header rows f
-    × (next ≡ Stop (Refused (refused name (topology_reason f) (topology_place (names_of (examined wants.header rows)) f)))))
+Takes (Topology command header) name rows next = TakesTopology command header name rows next
+Takes (Monitors task t) name rows next = TakesMonitors task t name rows next
 
 -- what the content of a file does: one longer than the limit is refused
 abbrev pub Steps : Wants → List ℕ → List ℕ → Next → Type 0

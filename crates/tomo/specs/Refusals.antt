@@ -1,6 +1,8 @@
 -- Refusals: one row with the refused word, a reason and a place.
 use Rattle.std.specs.Prelude.{ℕ, ◌∷◌, [], List, codes, decimal, slice_index_or}
 use Rattle.rows.specs.Rows.{Row, RowList}
+use Rattle.topology.specs.declared.faults.MonFault.{MonFault}
+use Rattle.topology.specs.declared.faults.MonFault.TheVariants as mon_faults
 use Rattle.topology.specs.declared.faults.TopoFault.{TopoFault}
 use Rattle.topology.specs.declared.faults.TopoFault.TheVariants.{NoMemory, Width, Name, Loop, Nodes, Links, Few, Apart}
 
@@ -33,3 +35,12 @@ topology_place names (Nodes r) = decimal r
 topology_place names (Links r) = decimal r
 topology_place names (Few n) = decimal n
 topology_place names (Apart v) = slice_index_or names v []
+
+-- why monitors are refused, and where: the row
+abbrev pub monitor_reason : MonFault → List ℕ
+monitor_reason mon_faults.NoMemory = []
+monitor_reason (mon_faults.Unknown r) = codes "unknown"
+
+abbrev pub monitor_place : MonFault → List ℕ
+monitor_place mon_faults.NoMemory = []
+monitor_place (mon_faults.Unknown r) = decimal r

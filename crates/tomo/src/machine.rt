@@ -2,29 +2,39 @@
 ghost use Rattle.std.specs.Prelude.{◌≡◌, ◌≤◌, IfOk, length};
 ghost use Rattle.rows.specs.Rows.{rows_of};
 ghost use Rattle.tomo.specs.Table.{files_of, limit};
-ghost use Rattle.tomo.specs.Machine.{files_left, kind_of, start, WithTopology, Takes, StepsBy, Fewer, StartsWith};
+ghost use Rattle.tomo.specs.Machine.{files_left, kind_of, start, WithTopology, TakesTopology, with_monitors as then_monitors, TakesMonitors, Takes, StepsBy, Fewer, StartsWith};
 
 use crate::narrow::Narrow;
-use crate::refusal::{refuse, refuse_at, refuse_topology};
-use crate::table::{Command, Kind, Shape, limit_of};
+use crate::placed::Placed;
+use crate::refusal::{refuse, refuse_at, refuse_monitors, refuse_topology};
+use crate::table::{Command, Kind, MonitorTask, Shape, limit_of};
 use outside::Got;
 use planner::first_hub;
 use rows::{Rows, read_rows};
 use std::alloc::Global;
 use tomo_base::NoMemory;
-use topology::{Topology, read_topology};
+use topology::{Topology, read_monitors, read_topology};
 
-/// The file that is wanted next: a topology, for a command, whose first row may be a header.
-#[derive(Clone, Copy, Debug, PartialEq, Eq)]
-pub struct Wants {
-    pub command: Command,
-    pub header: bool,
+/// The file that is wanted next, with what was read before it.
+#[derive(Drop)]
+pub enum Wants {
+    /// A topology, for a command; its first row may be a header.
+    Topology {
+        command: Command,
+        header: bool,
+    },
+    /// Monitors of a topology.
+    Monitors {
+        task: MonitorTask,
+        topology: Topology,
+    },
 }
 
 /// A command with all that it reads.
 #[derive(Drop)]
 pub enum Inputs {
     Plan(Narrow),
+    Judge(Placed),
 }
 
 /// Where the reading ends: with all inputs, or with the row that refuses one.
@@ -46,7 +56,10 @@ impl Wants {
     pub fn kind(&self) -> Kind
         ensures { result ≡ kind_of self.now }
     {
-        Kind::TopologyFile
+        match self {
+            Wants::Topology { .. } => Kind::TopologyFile,
+            Wants::Monitors { .. } => Kind::MonitorFile,
+        }
     }
 }
 
@@ -55,7 +68,7 @@ pub fn begin(shape: Shape) -> Next
     ensures first { result ≡ start shape }
     ensures count { StartsWith shape result }
 {
-    Next::Ask(Wants {
+    Next::Ask(Wants::Topology {
         command: shape.command,
         header: shape.header,
     })
@@ -81,6 +94,53 @@ fn with_topology(
                 topology.name(hub),
             )?))),
         },
+        Command::WithMonitors(task) => Ok(Next::Ask(Wants::Monitors { task, topology })),
+    }
+}
+
+// Takes in a topology.
+fn take_topology(
+    alloc: Global,
+    command: Command,
+    header: bool,
+    name: &str,
+    rows: &Rows,
+) -> Result<Next, NoMemory>
+    ensures taken { IfOk result (λ next. TakesTopology command header name.now rows.now.closed next) }
+    ensures fewer { IfOk result (λ next. Fewer (length (files_of command)) next) }
+{
+    match read_topology(alloc, rows, header) {
+        Ok(topology) => with_topology(alloc, command, name, topology),
+        Err(fault) => Ok(Next::Stop(End::Refused(refuse_topology(
+            alloc, name, rows, header, fault,
+        )?))),
+    }
+}
+
+// What a task does with its topology and monitors.
+fn with_monitors(task: MonitorTask, placed: Placed) -> Next
+    ensures after { result ≡ then_monitors task placed }
+    ensures fewer { Fewer 1 result }
+{
+    match task {
+        MonitorTask::Judge => Next::Stop(End::Ready(Inputs::Judge(placed))),
+    }
+}
+
+// Takes in monitors.
+fn take_monitors(
+    alloc: Global,
+    task: MonitorTask,
+    topology: Topology,
+    name: &str,
+    rows: &Rows,
+) -> Result<Next, NoMemory>
+    ensures taken { IfOk result (λ next. TakesMonitors task topology name.now rows.now.closed next) }
+    ensures fewer { IfOk result (λ next. Fewer 1 next) }
+{
+    match read_monitors(alloc, &topology, rows) {
+        Ok(monitors) => Ok(with_monitors(task, Placed { topology, monitors })),
+        Err(fault) => Ok(Next::Stop(End::Refused(refuse_monitors(alloc, name, fault)?))),
     }
 }
 
@@ -91,15 +151,9 @@ fn take_in(alloc: Global, wants: Wants, name: &str, content: &[u8]) -> Result<Ne
     ensures fewer { IfOk result (λ next. Fewer (files_left wants) next) }
 {
     let rows = read_rows(alloc, content)?;
-    match read_topology(alloc, &rows, wants.header) {
-        Ok(topology) => with_topology(alloc, wants.command, name, topology),
-        Err(fault) => Ok(Next::Stop(End::Refused(refuse_topology(
-            alloc,
-            name,
-            &rows,
-            wants.header,
-            fault,
-        )?))),
+    match wants {
+        Wants::Topology { command, header } => take_topology(alloc, command, header, name, &rows),
+        Wants::Monitors { task, topology } => take_monitors(alloc, task, topology, name, &rows),
     }
 }
 

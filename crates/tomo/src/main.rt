@@ -3,9 +3,12 @@
 
 ghost use Rattle.std.specs.Prelude.{◌≡◌};
 
+mod answer;
 mod gather;
+mod judging;
 mod machine;
 mod narrow;
+mod placed;
 mod refusal;
 mod run;
 mod status;

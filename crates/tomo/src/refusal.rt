@@ -2,13 +2,13 @@
 ghost use Rattle.std.specs.Prelude.{◌≡◌, ◌≢◌, IfOk, decimal};
 ghost use Rattle.topology.specs.Topology.{names_of};
 ghost use Rattle.topology.specs.Faults.{examined, IsTopoFault};
-ghost use Rattle.tomo.specs.Refusals.{refused, topology_reason, topology_place};
+ghost use Rattle.tomo.specs.Refusals.{refused, topology_reason, topology_place, monitor_reason, monitor_place};
 
 use itoa::Buffer;
 use rows::Rows;
 use std::alloc::Global;
 use tomo_base::NoMemory;
-use topology::{TopoFault, nth_name};
+use topology::{MonFault, TopoFault, nth_name};
 
 /// The row that refuses a word for a reason, at a place.
 pub fn refuse(alloc: Global, word: &str, reason: &str, place: &str) -> Result<Rows, NoMemory>
@@ -55,5 +55,16 @@ pub fn refuse_topology(
             let name = nth_name(alloc, rows, header, node)?;
             refuse(alloc, word, "apart", name.as_str())
         }
+    }
+}
+
+/// The row that refuses monitors.
+pub fn refuse_monitors(alloc: Global, word: &str, fault: MonFault) -> Result<Rows, NoMemory>
+    ensures cause { IfOk result (λ refusal. fault ≢ MonFault.NoMemory) }
+    ensures row { IfOk result (λ refusal. refusal ≡ refused word.now (monitor_reason fault) (monitor_place fault)) }
+{
+    match fault {
+        MonFault::NoMemory => Err(NoMemory),
+        MonFault::Unknown(row) => refuse_at(alloc, word, "unknown", u64::from(row)),
     }
 }

@@ -8,12 +8,20 @@ use tomo_base::Words;
 #[derive(Clone, Copy, Debug, PartialEq, Eq)]
 pub enum Command {
     Plan,
+    WithMonitors(MonitorTask),
+}
+
+/// What is done with a topology and monitors.
+#[derive(Clone, Copy, Debug, PartialEq, Eq)]
+pub enum MonitorTask {
+    Judge,
 }
 
 /// What a file holds.
 #[derive(Clone, Copy, Debug, PartialEq, Eq)]
 pub enum Kind {
     TopologyFile,
+    MonitorFile,
 }
 
 /// What the words say beside the names of files: the command, and whether the topology's first row is a header.
@@ -28,7 +36,7 @@ pub fn limit_of(kind: Kind) -> u64
     ensures { result ≡ limit kind }
 {
     match kind {
-        Kind::TopologyFile => 4_194_304,
+        Kind::TopologyFile | Kind::MonitorFile => 4_194_304,
     }
 }
 
@@ -38,6 +46,7 @@ fn named_command(word: &str) -> Option<Command>
 {
     match word {
         "plan" => Some(Command::Plan),
+        "judge" => Some(Command::WithMonitors(MonitorTask::Judge)),
         _ => None,
     }
 }
@@ -48,6 +57,7 @@ fn words_after(command: Command) -> u32
 {
     match command {
         Command::Plan => 1,
+        Command::WithMonitors(MonitorTask::Judge) => 2,
     }
 }
 

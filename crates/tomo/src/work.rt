@@ -4,21 +4,16 @@ ghost use Rattle.rows.specs.Rows.{Row, text_of};
 ghost use Rattle.tomo.specs.Status.{IsAnswered};
 ghost use Rattle.tomo.specs.Answers.{Answers, Ends};
 
+use crate::answer::Answer;
+use crate::judging::judge_monitors;
 use crate::machine::{End, Inputs};
 use crate::narrow::Narrow;
 use crate::status::Status;
 use plan_form::plan_rows;
 use planner::make_plan;
-use rows::{Rows, print_rows};
+use rows::print_rows;
 use std::alloc::Global;
 use tomo_base::NoMemory;
-
-/// A status, and the rows that it comes with.
-#[derive(Drop)]
-pub struct Answer {
-    pub status: Status,
-    pub rows: Rows,
-}
 
 /// A status, and the output that it comes with.
 #[derive(Drop)]
@@ -44,6 +39,7 @@ fn work(alloc: Global, inputs: Inputs) -> Result<Answer, NoMemory>
 {
     match inputs {
         Inputs::Plan(narrow) => plan(alloc, &narrow),
+        Inputs::Judge(placed) => judge_monitors(alloc, &placed),
     }
 }
 

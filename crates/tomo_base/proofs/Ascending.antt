@@ -49,6 +49,13 @@ All-has P xs all v h = let at = place_in xs v h in subst P at.2 (all at.0 0 at.1
 pub All-from_has : (P : ℕ → Type 0) (xs : List ℕ) → ((v : ℕ) → has xs v ≡ true → P v) → All P xs
 All-from_has P xs each k d l = each (get_or xs k d) (has-at xs k d l)
 
+-- and of a set into which a number was put
+pub All_inserted : (P : ℕ → Type 0) (old new : List ℕ) (v : ℕ) → ((w : ℕ) → has new w ≡ ((v == w) || has old w)) → P v → All P old → All P new
+All_inserted P old new v sets here all = All-from_has P new (λ w at. elim (or_cases (v == w) (has old w) (sym (sets w) ∙ at)) [
+  | inl same ↦ subst P (eqb-true v w same) here
+  | inr before ↦ All-has P old all w before
+])
+
 -- a place in an ascending list where a new number belongs
 pub record BelongsAt (xs : List ℕ) (i v : ℕ) : Type 0 where
   pub within : i ≤ length xs

@@ -1,5 +1,5 @@
 // Monitors, read from rows.
-ghost use Rattle.std.specs.Prelude.{◌≡◌, length, IfOk, IfErr, OnOk};
+ghost use Rattle.std.specs.Prelude.{◌≡◌, ◌<◌, length, All, IfOk, IfErr, OnOk};
 ghost use Rattle.topology.specs.Monitors.{AllKnown, IsMonFault, monitors_of};
 
 use crate::faults::MonFault;
@@ -15,6 +15,7 @@ use tomo_base::NodeSet;
 /// row whose name no node has; rows are numbered from 1.
 pub fn read_monitors(alloc: Global, t: &Topology, rows: &Rows) -> Result<NodeSet, MonFault>
     ensures monitors { IfOk result (λ set. set ≡ monitors_of t.now.names rows.now.closed) }
+    ensures nodes { IfOk result (λ set. All (λ v. v < t.now.graph.nodes) set) }
     ensures known { OnOk result (AllKnown t.now.names rows.now.closed (length rows.now.closed)) }
     ensures fault { IfErr result (IsMonFault t.now.names rows.now.closed) }
 {

@@ -29,8 +29,20 @@ fn run(
     content: &[u8],
     written: &[u8],
 ) -> Result<(Status, bool), Fail> {
+    run_over(alloc, words, &[("t", content)], written)
+}
+
+// The same over files with these names.
+fn run_over(
+    alloc: Global,
+    words: &[&str],
+    files: &[(&str, &[u8])],
+    written: &[u8],
+) -> Result<(Status, bool), Fail> {
     let mut shelf = MemShelf::new(alloc);
-    shelf.put("t", content)?;
+    for &(name, content) in files {
+        shelf.put(name, content)?;
+    }
     let mut sink = MemSink::new(alloc, 1 << 20, 1000)?;
     let status = tomo(alloc, &words_of(alloc, words)?, &mut shelf, &mut sink);
     Ok((status, sink.bytes() == written))
@@ -98,6 +110,38 @@ fn other_topologies_are_refused(rt: HostRuntime) -> Result<(), Fail> {
     assert_eq!(rt;
         run(alloc, &plan, &too_long, b"refused,t,long,4194304\n")?,
         refused
+    );
+    Ok(())
+}
+
+#[test]
+fn monitors_are_judged(rt: HostRuntime) -> Result<(), Fail> {
+    let alloc = rt.alloc();
+    let star = b"c,x\nc,y\nc,z\n".as_slice();
+    let judged: [(&[u8], Status, &[u8]); 5] = [
+        (b"x\ny\n z \nx\n", Status::Done, b"yes,3\n"),
+        (b"y\nx\n", Status::Negative, b"bad,c,z\n"),
+        (b"", Status::Negative, b"bad,c,x,y,z\n"),
+        (b"x\nq\n", Status::BadInput, b"refused,m,unknown,2\n"),
+        (b"c\nz,x\ny\n", Status::Negative, b"bad,x\n"),
+    ];
+    for (monitors, status, written) in judged {
+        let files = [("t", star), ("m", monitors)];
+        assert_eq!(rt;
+            run_over(alloc, &["judge", "t", "m"], &files, written)?,
+            (status, true)
+        );
+    }
+    // A topology that is refused is the last file that is read.
+    let apart = [("t", b"a,b\nc,d\n".as_slice())];
+    assert_eq!(rt;
+        run_over(
+            alloc,
+            &["judge", "--header", "t", "m"],
+            &apart,
+            b"refused,t,few,2\n"
+        )?,
+        (Status::BadInput, true)
     );
     Ok(())
 }

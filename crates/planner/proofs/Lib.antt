@@ -1,3 +1,4 @@
 pub mod Singles
 pub mod OwnPaths
 pub mod OwnPlan
+pub mod Merged

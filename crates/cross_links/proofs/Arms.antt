@@ -1,43 +1,15 @@
 -- The arms of a link's ends that flows give: two of an end beside a monitor, and two of each end where neither is a monitor.
 use Rattle.std.proofs.Common.{ℕ, ◌≡◌, ◌≢◌, ◌<◌, Bool, true, false, ◌||◌, List, [], ◌∷◌, ◌++◌, length, get_or, refl, sym, ap, subst, ◌∙◌, inl, inr, arith}
 use Rattle.std.proofs.lemmas.Bool.{both_ways, false_from_ne_true, or_cases, or_left, or_right, or_from}
-use Rattle.tomo_base.specs.Network.{Network}
+use Rattle.tomo_base.specs.Network.{Network, IsGraph}
 use Rattle.tomo_base.specs.Sets.{has, union, Apart}
 use Rattle.tomo_base.specs.Walks.{StepsFrom, NoneTwice, end_of}
 use Rattle.tomo_base.proofs.Walks.{StepsFrom-append, end_of-append}
-use Rattle.unit_flow.specs.Flows.{Task, IsFlow, later_of, first_of, second_of}
-use Rattle.cross_links.proofs.Members.{has_none, has_first, has_later, has_cases, has_not, has_end, append_cases, append_right, once_right, once_append, not_first}
-use Rattle.cross_links.proofs.Turned.{IsArm}
-use Rattle.cross_links.proofs.Ways.{IsWay, leads_steps, leads_end, leads_last, leads_changed, way_avoids, arm_of, way_at, ways_apart}
-
--- two arms of v that share no other node and avoid w
-pub record TwoArms (g : Network) (m : ℕ → Bool) (v w : ℕ) (a b : List ℕ) : Type 0 where
-  pub arm_a : IsArm g m v a
-  pub arm_b : IsArm g m v b
-  pub a_b : Apart (has a) (has b)
-  pub off_a : has (v ∷ a) w ≡ false
-  pub off_b : has (v ∷ b) w ≡ false
-
--- the arms a and b of v, and c and d of w; the two of one node share no other node, and of the others only d may meet a
-pub record FourArms (g : Network) (m : ℕ → Bool) (v w : ℕ) (a b c d : List ℕ) : Type 0 where
-  pub arm_a : IsArm g m v a
-  pub arm_b : IsArm g m v b
-  pub arm_c : IsArm g m w c
-  pub arm_d : IsArm g m w d
-  pub a_b : Apart (has a) (has b)
-  pub c_d : Apart (has c) (has d)
-  pub c_a : Apart (has (w ∷ c)) (has (v ∷ a))
-  pub c_b : Apart (has (w ∷ c)) (has (v ∷ b))
-  pub d_b : Apart (has (w ∷ d)) (has (v ∷ b))
-
--- three ways that share only the source, of which the first goes on with w
-pub record ThreeWays (t : Task) (w : ℕ) (a b c : List ℕ) : Type 0 where
-  pub way_a : IsWay t (w ∷ a)
-  pub way_b : IsWay t b
-  pub way_c : IsWay t c
-  pub a_b : Apart (has (w ∷ a)) (has b)
-  pub a_c : Apart (has (w ∷ a)) (has c)
-  pub b_c : Apart (has b) (has c)
+use Rattle.unit_flow.specs.Flows.{Task, IsTask, IsFlow, later_of, first_of, second_of}
+use Rattle.cross_links.specs.Steps.{IsLedOn, IsChoice}
+use Rattle.cross_links.proofs.Members.{off_rest, has_none, has_first, has_later, has_cases, has_not, has_end, append_cases, append_right, once_right, once_append, not_first}
+use Rattle.cross_links.specs.Arms.{freely, onto, IsArm, TwoArms, FourArms, IsWay, ThreeWays}
+use Rattle.cross_links.proofs.Ways.{leads_steps, leads_end, leads_last, leads_changed, way_avoids, arm_of, way_at, ways_apart}
 
 -- a way without a node is one whose nodes do not have it
 avoids : (a : List ℕ) (w : ℕ) → ((z : ℕ) → has a z ≡ true → w ≡ z → ⊥) → has a w ≡ false
@@ -76,31 +48,13 @@ three_ways t w ps d i j k flow plain li lj lk ij ik jk is =
       b_c = ways_apart t ps flow j k d d jk lj lk;
     }
 
--- the second and the third way may be exchanged
-pub exchanged : {t : Task} {w : ℕ} {a b c : List ℕ} → ThreeWays t w a b c → ThreeWays t w a c b
-exchanged k = record { way_a = k.way_a; way_b = k.way_c; way_c = k.way_b; a_b = k.a_c; a_c = k.a_b; b_c = λ z h j. k.b_c z j h }
-
--- so may they as targets
-pub swapped : (x y z : Bool) → ((x || y) || z) ≡ ((x || z) || y)
-swapped x y z = grind arith
-
 -- a walk from a node on its way
 steps_after : (g : Network) (x : ℕ) (front : List ℕ) (y : ℕ) (rest : List ℕ) → StepsFrom g x (front ++ y ∷ rest) → StepsFrom g y rest
 steps_after g x [] y rest steps = steps.1
 steps_after g x (z ∷ front) y rest steps = steps_after g z front y rest steps.1
 
--- The first flow leads from v to the monitors, and has given three ways. The second leads from w, without v, to the monitors and to the ways b and c
-module _ (g : Network) (m nowhere targets banned : ℕ → Bool) (v w : ℕ) (a b c : List ℕ) (v_w : v ≢ w)
-    (ways : ThreeWays (record { graph = g; source = v; targets = m; banned = nowhere }) w a b c)
-    (targets_are : (z : ℕ) → targets z ≡ union (union m (has b)) (has c) z) (banned_is : (z : ℕ) → banned z ≡ has (v ∷ []) z) where
-  -- the task of the first flow
-  abbrev first_task : Task
-  first_task = record { graph = g; source = v; targets = m; banned = nowhere }
-
-  -- the task of the second
-  abbrev pub second_task : Task
-  second_task = record { graph = g; source = w; targets = targets; banned = banned }
-
+-- The first flow has given three ways from v. The second leads from w, without v, to the monitors and to the ways b and c
+module _ (g : Network) (m : ℕ → Bool) (v w : ℕ) (a b c : List ℕ) (v_w : v ≢ w) (ways : ThreeWays (freely g m v) w a b c) where
   -- w is on neither of the two ways
   w_off : (has b w ≡ false) × (has c w ≡ false)
   w_off = (
@@ -109,19 +63,19 @@ module _ (g : Network) (m nowhere targets banned : ℕ → Bool) (v w : ℕ) (a 
   )
 
   -- it is no target
-  pub w_no_target : m w ≡ false → targets w ≡ false
-  w_no_target plain = targets_are w ∙ or_from (m w || has b w) (has c w) (or_from (m w) (has b w) plain w_off.0) w_off.1
+  w_no_target : m w ≡ false → union (union m (has b)) (has c) w ≡ false
+  w_no_target plain = or_from (m w || has b w) (has c w) (or_from (m w) (has b w) plain w_off.0) w_off.1
 
-  -- and not banned
-  pub w_no_banned : banned w ≡ false
-  w_no_banned = banned_is w ∙ has_not v [] w v_w (has_none w)
+  -- so the second task is one
+  pub onto_ok : IsGraph g → w < g.nodes → m w ≡ false → IsTask (onto g m b c w v)
+  onto_ok graph below plain = record { graph = graph; below = below; no_target = w_no_target plain; no_banned = has_not v [] w v_w (has_none w) }
 
   -- the third way goes on from w as a way of the second flow
-  pub kept_way : IsWay second_task a
+  pub kept_way : IsWay (onto g m b c w v) a
   kept_way = record {
-    leads = leads_changed first_task second_task w a refl
-        (λ z h. targets_are z ∙ same (m z) (has b z) (has c z) (false_from_ne_true (has b z) (λ k. ways.a_b z h k)) (false_from_ne_true (has c z) (λ k. ways.a_c z h k)))
-        (λ z h. banned_is z ∙ has_not v [] z (λ e. not_first v (w ∷ a) z ways.way_a.once (has_later w a z h) e) (has_none z))
+    leads = leads_changed (freely g m v) (onto g m b c w v) w a refl
+        (λ z h. same (m z) (has b z) (has c z) (false_from_ne_true (has b z) (λ k. ways.a_b z h k)) (false_from_ne_true (has c z) (λ k. ways.a_c z h k)))
+        (λ z h. has_not v [] z (λ e. not_first v (w ∷ a) z ways.way_a.once (has_later w a z h) e) (has_none z))
         ways.way_a.leads.3;
     once = ways.way_a.once.1;
   }
@@ -130,29 +84,25 @@ module _ (g : Network) (m nowhere targets banned : ℕ → Bool) (v w : ℕ) (a 
       same x y z e f = grind (arith, e, f)
 
   -- what lies on b is a target
-  target_b : (z : ℕ) → has b z ≡ true → targets z ≡ true
-  target_b z h = targets_are z ∙ or_left (m z || has b z) (has c z) (or_right (m z) (has b z) h)
+  target_b : (z : ℕ) → has b z ≡ true → union (union m (has b)) (has c) z ≡ true
+  target_b z h = or_left (m z || has b z) (has c z) (or_right (m z) (has b z) h)
 
   -- so is what lies on c
-  target_c : (z : ℕ) → has c z ≡ true → targets z ≡ true
-  target_c z h = targets_are z ∙ or_right (m z || has b z) (has c z) h
-
-  -- v is banned
-  bans : banned v ≡ true
-  bans = banned_is v ∙ has_first v []
+  target_c : (z : ℕ) → has c z ≡ true → union (union m (has b)) (has c) z ≡ true
+  target_c z h = or_right (m z || has b z) (has c z) h
 
   arm_b : IsArm g m v b
-  arm_b = arm_of first_task m b (λ z h. h) ways.way_b
+  arm_b = arm_of (freely g m v) m b (λ z h. h) ways.way_b
 
   arm_c : IsArm g m v c
-  arm_c = arm_of first_task m c (λ z h. h) ways.way_c
+  arm_c = arm_of (freely g m v) m c (λ z h. h) ways.way_c
 
   -- the ways of the second flow: p, which ends where the kept way ends, and q
-  module _ (p q : List ℕ) (way_p : IsWay second_task p) (way_q : IsWay second_task q) (end_p : end_of w p ≡ end_of w a) (p_q : Apart (has p) (has q)) where
+  module _ (p q : List ℕ) (way_p : IsWay (onto g m b c w v) p) (way_q : IsWay (onto g m b c w v) q) (end_p : end_of w p ≡ end_of w a) (p_q : Apart (has p) (has q)) where
     -- a node of p that is a target is the end of a
-    on_p : (z : ℕ) → has (w ∷ p) z ≡ true → targets z ≡ true → has (w ∷ a) z ≡ true
+    on_p : (z : ℕ) → has (w ∷ p) z ≡ true → union (union m (has b)) (has c) z ≡ true → has (w ∷ a) z ≡ true
     on_p z h is =
-        let last : z ≡ end_of w a = leads_last second_task w p z way_p.leads h is ∙ end_p in
+        let last : z ≡ end_of w a = leads_last (onto g m b c w v) w p z way_p.leads h is ∙ end_p in
         ap (has (w ∷ a)) last ∙ has_end w a
 
     -- p shares no node with b
@@ -164,33 +114,33 @@ module _ (g : Network) (m nowhere targets banned : ℕ → Bool) (v w : ℕ) (a 
     p_c z h k = ways.a_c z (on_p z h (target_c z k)) k
 
     -- a way from w that does not meet d does not meet v d
-    beside : (r d : List ℕ) → IsWay second_task r → Apart (has (w ∷ r)) (has d) → Apart (has (w ∷ r)) (has (v ∷ d))
-    beside r d way apart z h k = elim (has_cases v d z k) [ inl e ↦ way_avoids second_task r v z way bans v_w h e | inr e ↦ apart z h e ]
+    off : (r d : List ℕ) → IsWay (onto g m b c w v) r → Apart (has (w ∷ r)) (has d) → Apart (has (w ∷ r)) (has (v ∷ d))
+    off r d way apart z h k = elim (has_cases v d z k) [ inl e ↦ way_avoids (onto g m b c w v) r v z way (has_first v []) v_w h e | inr e ↦ apart z h e ]
 
     -- p is an arm of w
     arm_p : IsArm g m w p
-    arm_p = record { steps = leads_steps second_task w p way_p.leads; once = way_p.once; ends = ap m end_p ∙ leads_end first_task v (w ∷ a) ways.way_a.leads }
+    arm_p = record { steps = leads_steps (onto g m b c w v) w p way_p.leads; once = way_p.once; ends = ap m end_p ∙ leads_end (freely g m v) v (w ∷ a) ways.way_a.leads }
 
     -- a node of q that is a target is its end
-    on_q : (z : ℕ) → has (w ∷ q) z ≡ true → targets z ≡ true → z ≡ end_of w q
-    on_q z h is = leads_last second_task w q z way_q.leads h is
+    on_q : (z : ℕ) → has (w ∷ q) z ≡ true → union (union m (has b)) (has c) z ≡ true → z ≡ end_of w q
+    on_q z h is = leads_last (onto g m b c w v) w q z way_q.leads h is
 
     -- q ends at a further monitor
-    pub arms_apart : has b (end_of w q) ≡ false → has c (end_of w q) ≡ false → FourArms g m v w b c p q
-    arms_apart off_b off_c = record {
+    ends_apart : has b (end_of w q) ≡ false → has c (end_of w q) ≡ false → FourArms g m v w b c p q
+    ends_apart off_b off_c = record {
       arm_a = arm_b;
       arm_b = arm_c;
       arm_c = arm_p;
       arm_d = record {
-        steps = leads_steps second_task w q way_q.leads;
+        steps = leads_steps (onto g m b c w v) w q way_q.leads;
         once = way_q.once;
-        ends = monitor (sym (targets_are (end_of w q)) ∙ leads_end second_task w q way_q.leads);
+        ends = monitor (leads_end (onto g m b c w v) w q way_q.leads);
       };
       a_b = ways.b_c;
       c_d = p_q;
-      c_a = beside p b way_p p_b;
-      c_b = beside p c way_p p_c;
-      d_b = beside q c way_q (λ z h k. both_ways (has c (end_of w q)) off_c (ap (has c) (sym (on_q z h (target_c z k))) ∙ k));
+      c_a = off p b way_p p_b;
+      c_b = off p c way_p p_c;
+      d_b = off q c way_q (λ z h k. both_ways (has c (end_of w q)) off_c (ap (has c) (sym (on_q z h (target_c z k))) ∙ k));
     }
       where
         monitor : union (union m (has b)) (has c) (end_of w q) ≡ true → m (end_of w q) ≡ true
@@ -199,29 +149,48 @@ module _ (g : Network) (m nowhere targets banned : ℕ → Bool) (v w : ℕ) (a 
           | inr e ↦ absurd (both_ways (has c (end_of w q)) off_c e)
         ]
 
-    -- q ends on b, which leads it on
-    pub arms_meet : (front rest : List ℕ) → b ≡ front ++ end_of w q ∷ rest → FourArms g m v w b c p (q ++ rest)
-    arms_meet front rest is =
+    -- q ends on one of the two, which leads it on
+    ends_on : (near far : List ℕ) → IsArm g m v near → IsArm g m v far → Apart (has near) (has far) →
+        ((z : ℕ) → has near z ≡ true → union (union m (has b)) (has c) z ≡ true) → ((z : ℕ) → has far z ≡ true → union (union m (has b)) (has c) z ≡ true) →
+        Apart (has (w ∷ p)) (has near) → Apart (has (w ∷ p)) (has far) → (front rest : List ℕ) → near ≡ front ++ end_of w q ∷ rest → FourArms g m v w near far p (q ++ rest)
+    ends_on near far arm arm' near_far target_near target_far p_near p_far front rest is =
         let y = end_of w q in
-        let on_b : (z : ℕ) → has (y ∷ rest) z ≡ true → has b z ≡ true = λ z h. ap (λ l. has l z) is ∙ append_right front (y ∷ rest) z h in
-        let y_b : has b y ≡ true = on_b y (has_first y rest) in
-        let once : NoneTwice (y ∷ rest) = once_right front (y ∷ rest) (subst NoneTwice is arm_b.once.1) in
-        let rest_b : (z : ℕ) → has rest z ≡ true → has b z ≡ true = λ z h. on_b z (has_later y rest z h) in
-        let last_is : end_of v b ≡ end_of y rest = ap (end_of v) is ∙ end_of-append v front (y ∷ rest) in record {
-          arm_a = arm_b;
-          arm_b = arm_c;
+        let on_near : (z : ℕ) → has (y ∷ rest) z ≡ true → has near z ≡ true = λ z h. ap (λ l. has l z) is ∙ append_right front (y ∷ rest) z h in
+        let y_near : has near y ≡ true = on_near y (has_first y rest) in
+        let once : NoneTwice (y ∷ rest) = once_right front (y ∷ rest) (subst NoneTwice is arm.once.1) in
+        let rest_near : (z : ℕ) → has rest z ≡ true → has near z ≡ true = λ z h. on_near z (has_later y rest z h) in
+        let last_is : end_of v near ≡ end_of y rest = ap (end_of v) is ∙ end_of-append v front (y ∷ rest) in record {
+          arm_a = arm;
+          arm_b = arm';
           arm_c = arm_p;
           arm_d = record {
-            steps = StepsFrom-append g w q rest (leads_steps second_task w q way_q.leads) (steps_after g v front y rest (subst (StepsFrom g v) is arm_b.steps));
-            once = once_append (w ∷ q) rest way_q.once once.1 (λ z h k. both_ways (has rest y) once.0 (ap (has rest) (sym (on_q z h (target_b z (rest_b z k)))) ∙ k));
-            ends = ap m (end_of-append w q rest ∙ sym last_is) ∙ arm_b.ends;
+            steps = StepsFrom-append g w q rest (leads_steps (onto g m b c w v) w q way_q.leads) (steps_after g v front y rest (subst (StepsFrom g v) is arm.steps));
+            once = once_append (w ∷ q) rest way_q.once once.1 (λ z h k. both_ways (has rest y) once.0 (ap (has rest) (sym (on_q z h (target_near z (rest_near z k)))) ∙ k));
+            ends = ap m (end_of-append w q rest ∙ sym last_is) ∙ arm.ends;
           };
-          a_b = ways.b_c;
-          c_d = λ z h k. elim (append_cases q rest z k) [ inl e ↦ p_q z h e | inr e ↦ p_b z (has_later w p z h) (rest_b z e) ];
-          c_a = beside p b way_p p_b;
-          c_b = beside p c way_p p_c;
+          a_b = near_far;
+          c_d = λ z h k. elim (append_cases q rest z k) [ inl e ↦ p_q z h e | inr e ↦ p_near z (has_later w p z h) (rest_near z e) ];
+          c_a = off p near way_p p_near;
+          c_b = off p far way_p p_far;
           d_b = λ z h k. elim (append_cases (w ∷ q) rest z h) [
-            | inl e ↦ beside q c way_q (λ u hu ku. ways.b_c u (ap (has b) (on_q u hu (target_c u ku)) ∙ y_b) ku) z e k
-            | inr e ↦ elim (has_cases v c z k) [ inl same ↦ not_first v b z arm_b.once (rest_b z e) same | inr in_c ↦ ways.b_c z (rest_b z e) in_c ]
+            | inl e ↦ off q far way_q (λ u hu ku. near_far u (ap (has near) (on_q u hu (target_far u ku)) ∙ y_near) ku) z e k
+            | inr e ↦ elim (has_cases v far z k) [ inl same ↦ not_first v near z arm.once (rest_near z e) same | inr in_far ↦ near_far z (rest_near z e) in_far ]
           ];
         }
+
+    -- the four arms, by where q ends
+    pub four_arms : (near far whole : List ℕ) → IsChoice (v ∷ b) (v ∷ c) (end_of w q) near far → IsLedOn (w ∷ q) (later_of near) whole →
+        FourArms g m v w (later_of near) (later_of far) p (later_of whole)
+    four_arms near far whole choice led = elim choice [
+      | inl first ↦ rw (first.1, first.2) (elim (rw first.1 at led) [
+        | inl out ↦ rw out.1 (ends_apart out.0 (off_rest v c (end_of w q) first.0))
+        | inr on ↦ rw on.3 (ends_on b c arm_b arm_c ways.b_c target_b target_c p_b p_c on.0 on.1 on.2)
+      ])
+      | inr second ↦ rw (second.1, second.2) (elim (rw second.1 at led) [
+        | inl out ↦ absurd (both_ways (has c (end_of w q)) out.0 (on_c second.0))
+        | inr on ↦ rw on.3 (ends_on c b arm_c arm_b (λ z h k. ways.b_c z k h) target_c target_b p_c p_b on.0 on.1 on.2)
+      ])
+    ]
+      where
+        on_c : has (v ∷ c) (end_of w q) ≡ true → has c (end_of w q) ≡ true
+        on_c h = elim (has_cases v c (end_of w q) h) [ inl e ↦ absurd (way_avoids (onto g m b c w v) q v (end_of w q) way_q (has_first v []) v_w (has_end w q) e) | inr k ↦ k ]

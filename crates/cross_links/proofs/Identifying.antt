@@ -14,33 +14,30 @@ use Rattle.tomo_base.proofs.Rows.{any_joins-from}
 use Rattle.ident_laws.specs.Laws.{NoBadPartIdentifies}
 use Rattle.ident_laws.proofs.Recipes.{recipe_sum}
 use Rattle.cross_links.specs.CrossRecipe.{IsCrossRecipe}
-use Rattle.cross_links.specs.Joining.{turned_onto}
-use Rattle.cross_links.proofs.Cases.{differ, second_case, third_case}
-use Rattle.cross_links.proofs.Places.{at_place}
-use Rattle.cross_links.proofs.Terms.{one_term, three_terms, four_terms, by_one, by_three, by_four}
+use Rattle.cross_links.specs.Joining.{one_term, three_terms, four_terms}
+use Rattle.cross_links.proofs.Tasks.{differ}
+use Rattle.cross_links.proofs.Cases.{second_case, third_case}
+use Rattle.cross_links.proofs.Places.{only_joins, joins_own}
+use Rattle.cross_links.proofs.Terms.{by_one, by_three, by_four}
 
 module _ (g : Network) (m : ℕ → Bool) (graph : IsGraph g) (none : NoBadPart g m) where
   -- a link to a monitor
   to_monitor : (i v w : ℕ) → IsTrue (linked g v w) → ((k : ℕ) (x : Link) → slice_get g.links k ≡ Some x → joins x v w ≡ (k == i)) → m v ≡ false → m w ≡ true → (terms : List (ℤ × List ℕ)) × IsCrossRecipe g m i terms
   to_monitor i v w l only plain is =
-      let arms = second_case g m graph none v w l plain in (
-        three_terms (turned_onto (w ∷ []) (v ∷ arms.0)) (turned_onto (w ∷ []) (v ∷ arms.1)) (turned_onto arms.0 (v ∷ arms.1)),
-        by_three g m i v w l (differ g m graph v w l) only arms.0 arms.1 plain is arms.2,
-      )
+      let arms = second_case g m graph none v w l plain in
+      (three_terms w (v ∷ arms.0) (v ∷ arms.1), by_three g m v w l (differ g m graph v w l) i only arms.0 arms.1 plain is arms.2)
 
   -- a link, by which of its ends are monitors
   recipe_for : (i v w : ℕ) → IsTrue (linked g v w) → ((k : ℕ) (x : Link) → slice_get g.links k ≡ Some x → joins x v w ≡ (k == i)) → (terms : List (ℤ × List ℕ)) × IsCrossRecipe g m i terms
   recipe_for i v w l only = elim (cases_Bool (m v)) [
     | inl mv ↦ elim (cases_Bool (m w)) [
-      | inl mw ↦ (one_term (v ∷ w ∷ []), by_one g m i v w l (differ g m graph v w l) only mv mw)
+      | inl mw ↦ (one_term v w, by_one g m v w l (differ g m graph v w l) i only mv mw)
       | inr pw ↦ to_monitor i w v (linked_comm g v w l) (λ k x e. joins_comm x w v ∙ only k x e) pw mv
     ]
     | inr pv ↦ elim (cases_Bool (m w)) [
       | inl mw ↦ to_monitor i v w l only pv mw
-      | inr pw ↦ let arms = third_case g m graph none v w l pv pw in (
-        four_terms (turned_onto (w ∷ arms.2) (v ∷ arms.0)) (turned_onto (v ∷ arms.1) (w ∷ arms.3)) (turned_onto arms.0 (v ∷ arms.1)) (turned_onto arms.2 (w ∷ arms.3)),
-        by_four g m i v w l (differ g m graph v w l) only arms.0 arms.1 arms.2 arms.3 pw pv arms.4,
-      )
+      | inr pw ↦ let arms = third_case g m graph none v w l pv pw in
+          (four_terms (v ∷ arms.0) (v ∷ arms.1) (w ∷ arms.2) (w ∷ arms.3), by_four g m v w l (differ g m graph v w l) i only arms.0 arms.1 arms.2 arms.3 pv pw arms.4)
     ]
   ]
 
@@ -49,8 +46,8 @@ pub four_path_recipes : (g : Network) (m : ℕ → Bool) (i : ℕ) → IsGraph g
 four_path_recipes g m i graph none lt =
     let d : Link = record { a = 0; b = 0 } in
     let l : Link = get_or g.links i d in
-    let at : slice_get g.links i ≡ Some l = slice_get-get_or g.links i d lt in
-    recipe_for g m graph none i l.a l.b (any_joins-from g.links i l.a l.b (l, at, joins_its_ends l)) (λ k x e. at_place g.nodes g.links i k l x graph at e)
+    let at = joins_own g.links i d lt in
+    recipe_for g m graph none i l.a l.b (any_joins-from g.links i l.a l.b at) (only_joins g i l.a l.b graph at)
 
 -- two numbers of paths that agree on each term have equal sums over the terms
 same_weighted : (w : ℤ → ℕ) (f h : List ℕ → ℕ) (terms : List (ℤ × List ℕ)) → All (λ t. f t.1 ≡ h t.1) terms → weighted w f terms ≡ weighted w h terms

@@ -1,9 +1,14 @@
 pub mod Members
+pub mod Found
 pub mod Turned
 pub mod Growing
+pub mod Tasks
 pub mod Ways
 pub mod Arms
+pub mod Second
 pub mod Cases
 pub mod Places
 pub mod Terms
+pub mod Naming
+pub mod Recipes
 pub mod Identifying

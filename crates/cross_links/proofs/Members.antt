@@ -30,6 +30,10 @@ pub has_not : (x : ℕ) (a : List ℕ) (z : ℕ) → (x ≡ z → ⊥) → has a
 unfolding has
 has_not x a z ne out = or_from (x == z) (has a z) (ne_eqb x z ne) out
 
+-- what is off a list is off its rest
+pub off_rest : (x : ℕ) (a : List ℕ) (v : ℕ) → has (x ∷ a) v ≡ false → has a v ≡ false
+off_rest x a v off = false_from_ne_true (has a v) (λ h. both_ways (has (x ∷ a) v) off (has_later x a v h))
+
 -- the last node of a list is in it
 pub has_end : (x : ℕ) (a : List ℕ) → has (x ∷ a) (end_of x a) ≡ true
 has_end x [] = has_first x []

@@ -1,9 +1,12 @@
 -- A link joins its own ends and those of no other link.
-use Rattle.std.proofs.Common.{ℕ, zero, suc, ◌≡◌, ◌==◌, false, List, [], ◌∷◌, slice_get, Some, None, sym, ap, ap₂, ◌∙◌, arith}
+use Rattle.std.proofs.Common.{ℕ, zero, suc, ◌<◌, length, get_or, ◌≡◌, ◌==◌, false, List, [], ◌∷◌, slice_get, Some, None, sym, ap, ap₂, ◌∙◌, inl, inr, arith}
 use Rattle.std.proofs.lemmas.Bool.{or_parts, ne_eqb}
+use Rattle.std.proofs.lemmas.Option.{slice_get-get_or}
 use Rattle.std.proofs.lemmas.Bool.Decides.{nat_tests}
 use Rattle.tomo_base.specs.declared.graph.Link.{Link}
-use Rattle.tomo_base.specs.Network.{joins, any_joins, AreLinks}
+use Rattle.tomo_base.specs.Network.{Network, joins, any_joins, AreLinks, IsGraph}
+use Rattle.tomo_base.specs.Table.{JoinsAt}
+use Rattle.tomo_base.proofs.Links.{joins_gives, joins_comm}
 use Rattle.tomo_base.proofs.Entering.{joins_its_ends}
 
 -- one link joins the ends of another exactly where the other joins its ends
@@ -26,7 +29,7 @@ further : (k i : ℕ) → (k == i) ≡ (suc k == suc i)
 further k i = grind (arith, nat_tests)
 
 -- among the links of a graph, the ends of the one at place i are joined by the one at place i alone
-pub at_place : (n : ℕ) (ls : List Link) (i k : ℕ) (l x : Link) → AreLinks n ls → slice_get ls i ≡ Some l → slice_get ls k ≡ Some x → joins x l.a l.b ≡ (k == i)
+at_place : (n : ℕ) (ls : List Link) (i k : ℕ) (l x : Link) → AreLinks n ls → slice_get ls i ≡ Some l → slice_get ls k ≡ Some x → joins x l.a l.b ≡ (k == i)
 at_place n [] i k l x w e f = absurd (none f)
   where
     none : None ≡ Some x → ⊥
@@ -42,3 +45,14 @@ at_place n (y ∷ ls) (suc i) zero l x w e f =
     let here : y ≡ x = cc f in
     ap (λ (u : Link). joins u l.a l.b) (sym here) ∙ joins_turn y l ∙ none_at ls i y.a y.b l w.2 e ∙ sym (ne_eqb 0 (suc i) (λ q. absurd (omega (arith, q))))
 at_place n (y ∷ ls) (suc i) (suc k) l x w e f = at_place n ls i k l x w.3 e f ∙ further k i
+
+-- so the two nodes that the link at place i joins are joined by that one alone
+pub only_joins : (g : Network) (i v w : ℕ) → IsGraph g → JoinsAt g.links i v w → (k : ℕ) (x : Link) → slice_get g.links k ≡ Some x → joins x v w ≡ (k == i)
+only_joins g i v w graph at k x e = elim (joins_gives at.0 v w at.2) [
+  | inl h ↦ ap₂ (λ a b. joins x a b) (sym h.0) (sym h.1) ∙ at_place g.nodes g.links i k at.0 x graph at.1 e
+  | inr h ↦ joins_comm x v w ∙ (ap₂ (λ a b. joins x a b) (sym h.0) (sym h.1) ∙ at_place g.nodes g.links i k at.0 x graph at.1 e)
+]
+
+-- the link at a place joins its own ends
+pub joins_own : (ls : List Link) (i : ℕ) (d : Link) → i < length ls → JoinsAt ls i (get_or ls i d).a (get_or ls i d).b
+joins_own ls i d l = (get_or ls i d, slice_get-get_or ls i d l, joins_its_ends (get_or ls i d))

@@ -11,22 +11,10 @@ use Rattle.tomo_base.specs.Identify.{sum_from, IsMonitorPath}
 use Rattle.tomo_base.specs.Recipes.{weighted, gains, losses, uses_of}
 use Rattle.tomo_base.proofs.Links.{joins_comm, linked_comm}
 use Rattle.cross_links.specs.CrossRecipe.{IsCrossCoefficient, Differ, IsCrossRecipe}
-use Rattle.cross_links.specs.Joining.{turned_onto}
-use Rattle.cross_links.proofs.Members.{has_none, has_first, has_later, has_cases, has_not, has_end, not_first}
-use Rattle.cross_links.proofs.Turned.{sum_across, sum_through, turned_left, turned_right, turned_neither, IsArm, across, through}
-use Rattle.cross_links.proofs.Arms.{TwoArms, FourArms}
-
--- the terms of a link between two monitors
-abbrev pub one_term : List ℕ → List (ℤ × List ℕ)
-one_term p = (pos 2, p) ∷ []
-
--- the terms of a link to one monitor
-abbrev pub three_terms : List ℕ → List ℕ → List ℕ → List (ℤ × List ℕ)
-three_terms p q r = (pos 1, p) ∷ (pos 1, q) ∷ (negsuc 0, r) ∷ []
-
--- the terms of a link between two nodes that are no monitors
-abbrev pub four_terms : List ℕ → List ℕ → List ℕ → List ℕ → List (ℤ × List ℕ)
-four_terms p q r s = (pos 1, p) ∷ (pos 1, q) ∷ (negsuc 0, r) ∷ (negsuc 0, s) ∷ []
+use Rattle.cross_links.specs.Joining.{turned_onto, one_term, three_terms, four_terms}
+use Rattle.cross_links.specs.Arms.{IsArm, TwoArms, FourArms}
+use Rattle.cross_links.proofs.Members.{off_rest, has_none, has_first, has_later, has_cases, has_not, has_end, not_first}
+use Rattle.cross_links.proofs.Turned.{sum_across, sum_through, turned_left, turned_right, turned_neither, across, through}
 
 -- the ones of a link, as a weight
 abbrev ones : Link → ℕ → ℕ → ℕ
@@ -73,10 +61,6 @@ pairs_four a b c d ab ac ad bc bd cd = AllPairs-cons Differ a (b ∷ c ∷ d ∷
 tells : (x y : ℤ) (p q : List ℕ) (v : ℕ) → has p v ≡ true → has q v ≡ false → Differ (x, p) (y, q)
 tells x y p q v h k = (v, λ e. both_ways (has p v) (e ∙ k) h)
 
--- what is off a list is off its rest
-off_rest : (x : ℕ) (a : List ℕ) (v : ℕ) → has (x ∷ a) v ≡ false → has a v ≡ false
-off_rest x a v off = false_from_ne_true (has a v) (λ h. both_ways (has (x ∷ a) v) off (has_later x a v h))
-
 -- what is in one list is off a list that shares no node with it
 off : (a b : List ℕ) (v : ℕ) → Apart (has a) (has b) → has a v ≡ true → has b v ≡ false
 off a b v apart h = false_from_ne_true (has b v) (λ k. apart v h k)
@@ -86,114 +70,124 @@ end_later : (g : Network) (m : ℕ → Bool) (x : ℕ) (a : List ℕ) → IsArm 
 end_later g m x [] arm plain = absurd (both_ways (m x) plain arm.ends)
 end_later g m x (y ∷ a) arm plain = has_end y a
 
-module _ (g : Network) (m : ℕ → Bool) (i v w : ℕ) (l : IsTrue (linked g v w)) (v_w : v ≢ w)
-    (only : (k : ℕ) (x : Link) → slice_get g.links k ≡ Some x → joins x v w ≡ (k == i)) where
-  -- the link between v and w, counted twice
-  counted : (k : ℕ) (x : Link) → slice_get g.links k ≡ Some x → 2 * ones x v w ≡ (if k == i then 2 else 0)
-  counted k x e = ap (λ c. 2 * one_if c) (only k x e) ∙ twice_if (k == i)
+-- the node w alone shares none with the paths of two arms that avoid it
+alone : (d : List ℕ) (w : ℕ) → has d w ≡ false → Apart (has (w ∷ [])) (has d)
+alone d w out z h k = elim (has_cases w [] z h) [ inl e ↦ both_ways (has d w) out (ap (has d) e ∙ k) | inr e ↦ both_ways (has [] z) (has_none z) e ]
 
-  -- counted with the coefficients, one term gives twice the link
-  sums_one : (x : Link) (c : ℕ) → 2 * ones x v w ≡ c → gains x (one_term (v ∷ w ∷ [])) ≡ losses x (one_term (v ∷ w ∷ [])) + c
-  unfolding weighted uses_of sum_from
-  sums_one x c h = omega (arith, h)
+module _ (g : Network) (m : ℕ → Bool) (v w : ℕ) (l : IsTrue (linked g v w)) (v_w : v ≢ w) where
+  -- a monitor is an arm of its own
+  own : (x : ℕ) → m x ≡ true → IsArm g m x []
+  own x is = record { steps = tt; once = (has_none x, tt); ends = is }
 
-  -- so do three
-  sums_three : (a b : List ℕ) (x : Link) (c : ℕ) → 2 * ones x v w ≡ c →
-      gains x (three_terms (turned_onto (w ∷ []) (v ∷ a)) (turned_onto (w ∷ []) (v ∷ b)) (turned_onto a (v ∷ b)))
-      ≡ losses x (three_terms (turned_onto (w ∷ []) (v ∷ a)) (turned_onto (w ∷ []) (v ∷ b)) (turned_onto a (v ∷ b))) + c
-  unfolding weighted uses_of sum_from
-  sums_three a b x c h = omega (arith, h, ones_comm x v w, sum_through (ones x) (ones_comm x) v a b)
+  -- the path over a link between monitors
+  pub paths_one : m v ≡ true → m w ≡ true → All (λ t. IsMonitorPath g m t.1) (one_term v w)
+  paths_one tv tw = all_one (λ t. IsMonitorPath g m t.1) (pos 2, turned_onto (v ∷ []) (w ∷ [])) (across g m v [] w [] (own v tv) (own w tw) l (alone (w ∷ []) v (has_not w [] v (λ e. v_w (sym e)) (has_none v))))
 
-  -- and four
-  sums_four : (a b c d : List ℕ) (x : Link) (n : ℕ) → 2 * ones x v w ≡ n →
-      gains x (four_terms (turned_onto (w ∷ c) (v ∷ a)) (turned_onto (v ∷ b) (w ∷ d)) (turned_onto a (v ∷ b)) (turned_onto c (w ∷ d)))
-      ≡ losses x (four_terms (turned_onto (w ∷ c) (v ∷ a)) (turned_onto (v ∷ b) (w ∷ d)) (turned_onto a (v ∷ b)) (turned_onto c (w ∷ d))) + n
-  unfolding weighted uses_of
-  sums_four a b c d x n h = omega (
-    arith,
-    h,
-    ones_comm x v w,
-    sum_across (ones x) (ones_comm x) w c v a,
-    sum_across (ones x) (ones_comm x) v b w d,
-    sum_through (ones x) (ones_comm x) v a b,
-    sum_through (ones x) (ones_comm x) w c d,
-  )
+  -- the three paths of a link to a monitor
+  pub paths_three : (a b : List ℕ) → m v ≡ false → m w ≡ true → TwoArms g m v w a b → All (λ t. IsMonitorPath g m t.1) (three_terms w (v ∷ a) (v ∷ b))
+  paths_three a b plain tw k =
+      all_three (λ t. IsMonitorPath g m t.1) (pos 1, turned_onto (w ∷ []) (v ∷ a)) (pos 1, turned_onto (w ∷ []) (v ∷ b)) (negsuc 0, turned_onto a (v ∷ b))
+      (across g m w [] v a (own w tw) k.arm_a (linked_comm g v w l) (alone (v ∷ a) w k.off_a))
+      (across g m w [] v b (own w tw) k.arm_b (linked_comm g v w l) (alone (v ∷ b) w k.off_b))
+      (through g m v a b k.arm_a k.arm_b plain k.a_b)
 
-  -- a link between two monitors: the path over it
-  pub by_one : m v ≡ true → m w ≡ true → IsCrossRecipe g m i (one_term (v ∷ w ∷ []))
-  by_one tv tw =
-      let p = v ∷ w ∷ [] in
-      let path : IsMonitorPath g m (v ∷ w ∷ []) = record { two = omega arith; different = (has_not w [] v (λ e. v_w (sym e)) (has_none v), (has_none w, tt)); linked = (l, tt); ends = (tv, tw) } in record {
-        some = omega arith;
-        few = omega arith;
-        paths = all_one (λ t. IsMonitorPath g m t.1) (pos 2, p) path;
-        coefficients = all_one (λ t. IsCrossCoefficient t.0) (pos 2, p) (inl refl);
-        different = pairs_one (pos 2, p);
-        recipe = λ k x e. sums_one x (if k == i then 2 else 0) (counted k x e);
-      }
+  -- the four paths of a link between two other nodes
+  pub paths_four : (a b c d : List ℕ) → m v ≡ false → m w ≡ false → FourArms g m v w a b c d → All (λ t. IsMonitorPath g m t.1) (four_terms (v ∷ a) (v ∷ b) (w ∷ c) (w ∷ d))
+  paths_four a b c d plain_v plain_w k =
+      all_four (λ t. IsMonitorPath g m t.1) (pos 1, turned_onto (w ∷ c) (v ∷ a)) (pos 1, turned_onto (v ∷ b) (w ∷ d)) (negsuc 0, turned_onto a (v ∷ b)) (negsuc 0, turned_onto c (w ∷ d))
+      (across g m w c v a k.arm_c k.arm_a (linked_comm g v w l) k.c_a)
+      (across g m v b w d k.arm_b k.arm_d l (λ z h j. k.d_b z j h))
+      (through g m v a b k.arm_a k.arm_b plain_v k.a_b)
+      (through g m w c d k.arm_c k.arm_d plain_w k.c_d)
 
-  -- a link to a monitor w: three paths, from two arms of v that avoid w
-  pub by_three : (a b : List ℕ) → m v ≡ false → m w ≡ true → TwoArms g m v w a b →
-      IsCrossRecipe g m i (three_terms (turned_onto (w ∷ []) (v ∷ a)) (turned_onto (w ∷ []) (v ∷ b)) (turned_onto a (v ∷ b)))
-  by_three a b plain tw k =
-      let p = turned_onto (w ∷ []) (v ∷ a) in
-      let q = turned_onto (w ∷ []) (v ∷ b) in
-      let r = turned_onto a (v ∷ b) in
-      let e = end_of v a in
-      let e_a : has a e ≡ true = end_later g m v a k.arm_a plain in
-      let r_w : has r w ≡ false = turned_neither a (v ∷ b) w (off_rest v a w k.off_a) k.off_b in
-      let q_e : has q e ≡ false = turned_neither (w ∷ []) (v ∷ b) e (off (v ∷ a) (w ∷ []) e (alone a k.off_a) (has_later v a e e_a)) (has_not v b e (not_first v a e k.arm_a.once e_a) (off a b e k.a_b e_a)) in record {
-        some = omega arith;
-        few = omega arith;
-        paths = all_three (λ t. IsMonitorPath g m t.1) (pos 1, p) (pos 1, q) (negsuc 0, r)
-            (across g m w [] v a only_w k.arm_a (linked_comm g v w l) (λ z h j. alone a k.off_a z j h))
-            (across g m w [] v b only_w k.arm_b (linked_comm g v w l) (λ z h j. alone b k.off_b z j h))
-            (through g m v a b k.arm_a k.arm_b plain k.a_b);
-        coefficients = all_three (λ t. IsCrossCoefficient t.0) (pos 1, p) (pos 1, q) (negsuc 0, r) (inr (inl refl)) (inr (inl refl)) (inr (inr refl));
-        different = pairs_three (pos 1, p) (pos 1, q) (negsuc 0, r)
-            (tells (pos 1) (pos 1) p q e (turned_right (w ∷ []) (v ∷ a) e (has_end v a)) q_e)
-            (tells (pos 1) (negsuc 0) p r w (turned_left (w ∷ []) (v ∷ a) w (has_first w [])) r_w)
-            (tells (pos 1) (negsuc 0) q r w (turned_left (w ∷ []) (v ∷ b) w (has_first w [])) r_w);
-        recipe = λ z x e. sums_three a b x (if z == i then 2 else 0) (counted z x e);
-      }
-    where
-      only_w : IsArm g m w []
-      only_w = record { steps = tt; once = (has_none w, tt); ends = tw }
+  module _ (i : ℕ) (only : (k : ℕ) (x : Link) → slice_get g.links k ≡ Some x → joins x v w ≡ (k == i)) where
+    -- the link between v and w, counted twice
+    counted : (k : ℕ) (x : Link) → slice_get g.links k ≡ Some x → 2 * ones x v w ≡ (if k == i then 2 else 0)
+    counted k x e = ap (λ c. 2 * one_if c) (only k x e) ∙ twice_if (k == i)
 
-      alone : (d : List ℕ) → has (v ∷ d) w ≡ false → Apart (has (v ∷ d)) (has (w ∷ []))
-      alone d out z h k = elim (has_cases w [] z k) [ inl e ↦ both_ways (has (v ∷ d) w) out (ap (has (v ∷ d)) e ∙ h) | inr e ↦ both_ways (has [] z) (has_none z) e ]
+    -- counted with the coefficients, one term gives twice the link
+    sums_one : (x : Link) (n : ℕ) → 2 * ones x v w ≡ n → gains x (one_term v w) ≡ losses x (one_term v w) + n
+    unfolding weighted uses_of sum_from
+    sums_one x n h = omega (arith, h)
 
-  -- a link between two nodes that are no monitors: four paths, from two arms of each
-  pub by_four : (a b c d : List ℕ) → m w ≡ false → m v ≡ false → FourArms g m v w a b c d →
-      IsCrossRecipe g m i (four_terms (turned_onto (w ∷ c) (v ∷ a)) (turned_onto (v ∷ b) (w ∷ d)) (turned_onto a (v ∷ b)) (turned_onto c (w ∷ d)))
-  by_four a b c d plain_w plain_v k =
-      let p = turned_onto (w ∷ c) (v ∷ a) in
-      let q = turned_onto (v ∷ b) (w ∷ d) in
-      let r = turned_onto a (v ∷ b) in
-      let s = turned_onto c (w ∷ d) in
-      let e = end_of w c in
-      let e_c : has c e ≡ true = end_later g m w c k.arm_c plain_w in
-      let w_a : has (v ∷ a) w ≡ false = off (w ∷ c) (v ∷ a) w k.c_a (has_first w c) in
-      let w_b : has (v ∷ b) w ≡ false = off (w ∷ c) (v ∷ b) w k.c_b (has_first w c) in
-      let v_c : has (w ∷ c) v ≡ false = off (v ∷ b) (w ∷ c) v (λ z h j. k.c_b z j h) (has_first v b) in
-      let v_d : has (w ∷ d) v ≡ false = off (v ∷ b) (w ∷ d) v (λ z h j. k.d_b z j h) (has_first v b) in
-      let q_e : has q e ≡ false = turned_neither (v ∷ b) (w ∷ d) e (off (w ∷ c) (v ∷ b) e k.c_b (has_end w c)) (has_not w d e (not_first w c e k.arm_c.once e_c) (off c d e k.c_d e_c)) in
-      let r_w : has r w ≡ false = turned_neither a (v ∷ b) w (off_rest v a w w_a) w_b in
-      let s_v : has s v ≡ false = turned_neither c (w ∷ d) v (off_rest w c v v_c) v_d in record {
-        some = omega arith;
-        few = omega arith;
-        paths = all_four (λ t. IsMonitorPath g m t.1) (pos 1, p) (pos 1, q) (negsuc 0, r) (negsuc 0, s)
-            (across g m w c v a k.arm_c k.arm_a (linked_comm g v w l) k.c_a)
-            (across g m v b w d k.arm_b k.arm_d l (λ z h j. k.d_b z j h))
-            (through g m v a b k.arm_a k.arm_b plain_v k.a_b)
-            (through g m w c d k.arm_c k.arm_d plain_w k.c_d);
-        coefficients = all_four (λ t. IsCrossCoefficient t.0) (pos 1, p) (pos 1, q) (negsuc 0, r) (negsuc 0, s) (inr (inl refl)) (inr (inl refl)) (inr (inr refl)) (inr (inr refl));
-        different = pairs_four (pos 1, p) (pos 1, q) (negsuc 0, r) (negsuc 0, s)
-            (tells (pos 1) (pos 1) p q e (turned_left (w ∷ c) (v ∷ a) e (has_end w c)) q_e)
-            (tells (pos 1) (negsuc 0) p r w (turned_left (w ∷ c) (v ∷ a) w (has_first w c)) r_w)
-            (tells (pos 1) (negsuc 0) p s v (turned_right (w ∷ c) (v ∷ a) v (has_first v a)) s_v)
-            (tells (pos 1) (negsuc 0) q r w (turned_right (v ∷ b) (w ∷ d) w (has_first w d)) r_w)
-            (tells (pos 1) (negsuc 0) q s v (turned_left (v ∷ b) (w ∷ d) v (has_first v b)) s_v)
-            (tells (negsuc 0) (negsuc 0) r s v (turned_right a (v ∷ b) v (has_first v b)) s_v);
-        recipe = λ z x h. sums_four a b c d x (if z == i then 2 else 0) (counted z x h);
-      }
+    -- so do three
+    sums_three : (a b : List ℕ) (x : Link) (n : ℕ) → 2 * ones x v w ≡ n → gains x (three_terms w (v ∷ a) (v ∷ b)) ≡ losses x (three_terms w (v ∷ a) (v ∷ b)) + n
+    unfolding weighted uses_of sum_from
+    sums_three a b x n h = omega (arith, h, ones_comm x v w, sum_through (ones x) (ones_comm x) v a b)
+
+    -- and four
+    sums_four : (a b c d : List ℕ) (x : Link) (n : ℕ) → 2 * ones x v w ≡ n → gains x (four_terms (v ∷ a) (v ∷ b) (w ∷ c) (w ∷ d)) ≡ losses x (four_terms (v ∷ a) (v ∷ b) (w ∷ c) (w ∷ d)) + n
+    unfolding weighted uses_of
+    sums_four a b c d x n h = omega (
+      arith,
+      h,
+      ones_comm x v w,
+      sum_across (ones x) (ones_comm x) w c v a,
+      sum_across (ones x) (ones_comm x) v b w d,
+      sum_through (ones x) (ones_comm x) v a b,
+      sum_through (ones x) (ones_comm x) w c d,
+    )
+
+    -- a link between two monitors
+    pub by_one : m v ≡ true → m w ≡ true → IsCrossRecipe g m i (one_term v w)
+    by_one tv tw =
+        let p = turned_onto (v ∷ []) (w ∷ []) in record {
+          some = omega arith;
+          few = omega arith;
+          paths = paths_one tv tw;
+          coefficients = all_one (λ t. IsCrossCoefficient t.0) (pos 2, p) (inl refl);
+          different = pairs_one (pos 2, p);
+          recipe = λ k x e. sums_one x (if k == i then 2 else 0) (counted k x e);
+        }
+
+    -- a link to a monitor w, from two arms of v that avoid w
+    pub by_three : (a b : List ℕ) → m v ≡ false → m w ≡ true → TwoArms g m v w a b → IsCrossRecipe g m i (three_terms w (v ∷ a) (v ∷ b))
+    by_three a b plain tw k =
+        let p = turned_onto (w ∷ []) (v ∷ a) in
+        let q = turned_onto (w ∷ []) (v ∷ b) in
+        let r = turned_onto a (v ∷ b) in
+        let e = end_of v a in
+        let e_a : has a e ≡ true = end_later g m v a k.arm_a plain in
+        let w_not_e : has (w ∷ []) e ≡ false = off (v ∷ a) (w ∷ []) e (λ z h j. alone (v ∷ a) w k.off_a z j h) (has_later v a e e_a) in
+        let r_w : has r w ≡ false = turned_neither a (v ∷ b) w (off_rest v a w k.off_a) k.off_b in
+        let q_e : has q e ≡ false = turned_neither (w ∷ []) (v ∷ b) e w_not_e (has_not v b e (not_first v a e k.arm_a.once e_a) (off a b e k.a_b e_a)) in record {
+          some = omega arith;
+          few = omega arith;
+          paths = paths_three a b plain tw k;
+          coefficients = all_three (λ t. IsCrossCoefficient t.0) (pos 1, p) (pos 1, q) (negsuc 0, r) (inr (inl refl)) (inr (inl refl)) (inr (inr refl));
+          different = pairs_three (pos 1, p) (pos 1, q) (negsuc 0, r)
+              (tells (pos 1) (pos 1) p q e (turned_right (w ∷ []) (v ∷ a) e (has_end v a)) q_e)
+              (tells (pos 1) (negsuc 0) p r w (turned_left (w ∷ []) (v ∷ a) w (has_first w [])) r_w)
+              (tells (pos 1) (negsuc 0) q r w (turned_left (w ∷ []) (v ∷ b) w (has_first w [])) r_w);
+          recipe = λ z x h. sums_three a b x (if z == i then 2 else 0) (counted z x h);
+        }
+
+    -- a link between two nodes that are no monitors, from two arms of each
+    pub by_four : (a b c d : List ℕ) → m v ≡ false → m w ≡ false → FourArms g m v w a b c d → IsCrossRecipe g m i (four_terms (v ∷ a) (v ∷ b) (w ∷ c) (w ∷ d))
+    by_four a b c d plain_v plain_w k =
+        let p = turned_onto (w ∷ c) (v ∷ a) in
+        let q = turned_onto (v ∷ b) (w ∷ d) in
+        let r = turned_onto a (v ∷ b) in
+        let s = turned_onto c (w ∷ d) in
+        let e = end_of w c in
+        let e_c : has c e ≡ true = end_later g m w c k.arm_c plain_w in
+        let w_a : has (v ∷ a) w ≡ false = off (w ∷ c) (v ∷ a) w k.c_a (has_first w c) in
+        let w_b : has (v ∷ b) w ≡ false = off (w ∷ c) (v ∷ b) w k.c_b (has_first w c) in
+        let v_c : has (w ∷ c) v ≡ false = off (v ∷ b) (w ∷ c) v (λ z h j. k.c_b z j h) (has_first v b) in
+        let v_d : has (w ∷ d) v ≡ false = off (v ∷ b) (w ∷ d) v (λ z h j. k.d_b z j h) (has_first v b) in
+        let q_e : has q e ≡ false = turned_neither (v ∷ b) (w ∷ d) e (off (w ∷ c) (v ∷ b) e k.c_b (has_end w c)) (has_not w d e (not_first w c e k.arm_c.once e_c) (off c d e k.c_d e_c)) in
+        let r_w : has r w ≡ false = turned_neither a (v ∷ b) w (off_rest v a w w_a) w_b in
+        let s_v : has s v ≡ false = turned_neither c (w ∷ d) v (off_rest w c v v_c) v_d in record {
+          some = omega arith;
+          few = omega arith;
+          paths = paths_four a b c d plain_v plain_w k;
+          coefficients = all_four (λ t. IsCrossCoefficient t.0) (pos 1, p) (pos 1, q) (negsuc 0, r) (negsuc 0, s) (inr (inl refl)) (inr (inl refl)) (inr (inr refl)) (inr (inr refl));
+          different = pairs_four (pos 1, p) (pos 1, q) (negsuc 0, r) (negsuc 0, s)
+              (tells (pos 1) (pos 1) p q e (turned_left (w ∷ c) (v ∷ a) e (has_end w c)) q_e)
+              (tells (pos 1) (negsuc 0) p r w (turned_left (w ∷ c) (v ∷ a) w (has_first w c)) r_w)
+              (tells (pos 1) (negsuc 0) p s v (turned_right (w ∷ c) (v ∷ a) v (has_first v a)) s_v)
+              (tells (pos 1) (negsuc 0) q r w (turned_right (v ∷ b) (w ∷ d) w (has_first w d)) r_w)
+              (tells (pos 1) (negsuc 0) q s v (turned_left (v ∷ b) (w ∷ d) v (has_first v b)) s_v)
+              (tells (negsuc 0) (negsuc 0) r s v (turned_right a (v ∷ b) v (has_first v b)) s_v);
+          recipe = λ z x h. sums_four a b c d x (if z == i then 2 else 0) (counted z x h);
+        }

@@ -1,5 +1,6 @@
 -- Two lists joined by a link or at a node: what is summed along them, and that they are monitor paths.
-use Rattle.std.proofs.Common.{ℕ, ◌+◌, ◌≡◌, Bool, true, false, ◌||◌, List, [], ◌∷◌, length, IsTrue, refl, ◌∙◌, inl, inr, arith}
+use Rattle.std.proofs.Common.{ℕ, ◌+◌, ◌≡◌, Bool, true, false, ◌||◌, List, [], ◌∷◌, ◌++◌, reverse, ap, length, IsTrue, refl, ◌∙◌, inl, inr, arith}
+use Rattle.std.proofs.lemmas.List.{reverse-append, append_assoc}
 use Rattle.std.proofs.lemmas.Bool.{or_left, or_right, or_from, both_ways, false_from_ne_true}
 use Rattle.tomo_base.specs.Network.{Network, linked}
 use Rattle.tomo_base.specs.Sets.{has, Apart}
@@ -7,7 +8,13 @@ use Rattle.tomo_base.specs.Walks.{StepsFrom, IsWalk, EndsIn, NoneTwice, end_of}
 use Rattle.tomo_base.specs.Identify.{sum_from, sum_over, IsMonitorPath}
 use Rattle.tomo_base.proofs.Links.{linked_comm}
 use Rattle.cross_links.specs.Joining.{turned_onto}
+use Rattle.cross_links.specs.Arms.{IsArm}
 use Rattle.cross_links.proofs.Members.{has_first, has_later, has_cases, not_first}
+
+-- it is the reverse of the first, and the second
+pub turned_is : (a b : List ℕ) → reverse a ++ b ≡ turned_onto a b
+turned_is [] b = refl
+turned_is (x ∷ a) b = ap (λ l. l ++ b) (reverse-append (x ∷ []) a) ∙ (append_assoc (reverse a) (x ∷ []) b ∙ turned_is a (x ∷ b))
 
 -- the sum along two lists joined by a link
 pub sum_across : (f : ℕ → ℕ → ℕ) → ((x y : ℕ) → f x y ≡ f y x) → (x : ℕ) (a : List ℕ) (y : ℕ) (b : List ℕ) →
@@ -63,14 +70,8 @@ module _ (g : Network) (m : ℕ → Bool) where
   ends_across x [] y b ea eb = (ea, eb)
   ends_across x (z ∷ a) y b ea eb = ends_across z a x (y ∷ b) ea eb
 
-  -- a walk of different nodes that ends at a monitor
-  pub record IsArm (x : ℕ) (a : List ℕ) : Type 0 where
-    pub steps : StepsFrom g x a
-    pub once : NoneTwice (x ∷ a)
-    pub ends : IsTrue (m (end_of x a))
-
   -- two arms joined by a link are a monitor path
-  pub across : (x : ℕ) (a : List ℕ) (y : ℕ) (b : List ℕ) → IsArm x a → IsArm y b → IsTrue (linked g x y) → Apart (has (x ∷ a)) (has (y ∷ b)) → IsMonitorPath g m (turned_onto (x ∷ a) (y ∷ b))
+  pub across : (x : ℕ) (a : List ℕ) (y : ℕ) (b : List ℕ) → IsArm g m x a → IsArm g m y b → IsTrue (linked g x y) → Apart (has (x ∷ a)) (has (y ∷ b)) → IsMonitorPath g m (turned_onto (x ∷ a) (y ∷ b))
   across x a y b arm arm' l apart = record {
     two = omega (arith, length-turned_onto (x ∷ a) (y ∷ b));
     different = once_turned (x ∷ a) (y ∷ b) arm.once arm'.once apart;
@@ -79,7 +80,7 @@ module _ (g : Network) (m : ℕ → Bool) where
   }
 
   -- so are two arms of one node that is no monitor
-  pub through : (x : ℕ) (a b : List ℕ) → IsArm x a → IsArm x b → m x ≡ false → Apart (has a) (has b) → IsMonitorPath g m (turned_onto a (x ∷ b))
+  pub through : (x : ℕ) (a b : List ℕ) → IsArm g m x a → IsArm g m x b → m x ≡ false → Apart (has a) (has b) → IsMonitorPath g m (turned_onto a (x ∷ b))
   through x [] b arm arm' plain apart = absurd (both_ways (m x) plain arm.ends)
   through x (z ∷ a) b arm arm' plain apart =
       across z a x b (record { steps = arm.steps.1; once = arm.once.1; ends = arm.ends }) arm' (linked_comm g x z arm.steps.0)

@@ -8,12 +8,7 @@ use Rattle.tomo_base.specs.Sets.{has, Apart}
 use Rattle.tomo_base.specs.Walks.{StepsFrom, NoneTwice, end_of}
 use Rattle.unit_flow.specs.Flows.{Task, LeadsFrom, IsRoute, later_of, all_later, last_of, IsFlow}
 use Rattle.cross_links.proofs.Members.{has_first, has_later, has_cases, append_left, append_right, once_left, once_right, once_apart}
-use Rattle.cross_links.proofs.Turned.{IsArm}
-
--- a way from the source to a target, by its nodes after the source
-pub record IsWay (t : Task) (a : List ℕ) : Type 0 where
-  pub leads : LeadsFrom t t.source a
-  pub once : NoneTwice (t.source ∷ a)
+use Rattle.cross_links.specs.Arms.{IsArm, IsWay}
 
 -- ---- on the way
 -- each node is linked to the next

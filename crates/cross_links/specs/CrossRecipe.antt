@@ -1,9 +1,11 @@
 -- Recipes of at most four monitor paths.
-use Rattle.std.specs.Prelude.{ℕ, ◌≡◌, ◌≢◌, ◌≤◌, ◌⊎◌, Bool, List, length, ℤ, pos, negsuc, All, AllPairs}
+use Rattle.std.specs.Prelude.{ℕ, ◌≡◌, ◌≢◌, ◌+◌, ◌<◌, ◌≤◌, ◌⊎◌, Bool, List, ◌++◌, length, slice_index_or, ℤ, pos, negsuc, All, AllPairs}
 use Rattle.tomo_base.specs.Network.{Network}
 use Rattle.tomo_base.specs.Sets.{has}
 use Rattle.tomo_base.specs.Identify.{IsMonitorPath}
 use Rattle.tomo_base.specs.Recipes.{IsRecipe}
+use Rattle.simple_path.specs.declared.recipe.Term.{Term}
+use Rattle.simple_path.specs.Terms.{path_terms}
 
 -- 2, 1 or -1
 abbrev pub IsCrossCoefficient : ℤ → Type 0
@@ -21,3 +23,13 @@ pub record IsCrossRecipe (g : Network) (m : ℕ → Bool) (i : ℕ) (terms : Lis
   pub coefficients : All (λ t. IsCrossCoefficient t.0) terms
   pub different : AllPairs Differ terms
   pub recipe : IsRecipe g.links i terms
+
+-- monitor paths were added to a pool, none longer than the graph has nodes; the terms name them in their order, one term for each, and are such a recipe
+pub record AddsRecipe (g : Network) (m : ℕ → Bool) (i : ℕ) (old new : List (List ℕ)) (terms : List Term) : Type 0 where
+  pub added : List (List ℕ)
+  pub grown : new ≡ old ++ added
+  pub one_each : length terms ≡ length added
+  pub in_order : (k : ℕ) (d : Term) → k < length terms → (slice_index_or terms k d).path ≡ length old + k
+  pub paths : All (IsMonitorPath g m) added
+  pub short : All (λ p. length p ≤ g.nodes) added
+  pub recipe : IsCrossRecipe g m i (path_terms new terms)

@@ -1,24 +1,36 @@
-use Rattle.std.proofs.Common.{◌≡◌, ◌<◌, true, false, replicate, length, slice_index_or, All, refl, sym, ap, subst, ◌∙◌, arith, length, length-set}
+use Rattle.std.proofs.Common.{◌≡◌, ◌++◌, false, replicate, length, take, drop, All, ◌<◌, sym, ap, subst, ◌∙◌, arith}
 use Rattle.std.proofs.lemmas.List.{length-replicate}
 use Rattle.tomo_base.specs.Search.{mark_of}
+use Rattle.tomo_base.specs.Sets.{has}
+use Rattle.tomo_base.proofs.Entering.{lent_back}
 use Rattle.unit_flow.proofs.Reaches.{bare_mark}
-use Rattle.unit_flow.proofs.Marking.{marks_none, marks_more}
+use Rattle.unit_flow.proofs.Marking.{marks_only}
 use Rattle.unit_flow.proofs.marks.marks.Goals as goal
 
-pub loop-v-init : goal.loop-v-init
-loop-v-init c =
-    let bare : c.in_ok-marks.marks.items ≡ replicate c.args.count false = c.in_ok-marks.ensures.items_if_clones_equal (λ y h. h) in (
-      ap (λ z. length z) bare ∙ length-replicate c.args.count false,
-      λ w. marks_none c.in_ok-marks.marks.items w (ap (λ z. mark_of z w) bare ∙ bare_mark c.args.count w),
-    )
+pub mark-requires : goal.mark-requires
+mark-requires c =
+    let bare : c.in_ok-marks.marks.items ≡ replicate c.args.count false = c.in_ok-marks.ensures.items_if_clones_equal (λ y h. h) in
+    let lent : c.deref_mut.result.now ≡ c.in_ok-marks.marks.items = c.deref_mut.ensures.value in
+    let size : length c.deref_mut.result.now ≡ c.args.count = ap length (lent ∙ bare) ∙ length-replicate c.args.count false in
+    subst (λ n. All (λ v. v < n) c.as_slice.result.now) (sym size) (subst (All (λ v. v < c.args.count)) (sym c.as_slice.ensures.nodes) c.requires)
 
-pub loop-v-preserved : goal.loop-v-preserved
-loop-v-preserved c =
-    let xs = c.as_slice-v-items.result.now in
-    let i = c.loop-v.v-index in
-    let v = slice_index_or xs i 0 in
-    let marks = c.loop-v.marks.items in
-    let same : xs ≡ c.args.set.now = c.as_slice-v-items.ensures.nodes in
-    let below : v < c.args.count = subst (All (λ w. w < c.args.count)) (sym same) c.requires i 0 c.loop-v-test.true in
-    let room : v < length marks = omega (arith, below, c.loop-v.invariant.0) in
-    (length-set marks v true ∙ c.loop-v.invariant.0, λ w. marks_more marks xs i 0 v w c.loop-v-test.true refl room (c.loop-v.invariant.1 w))
+-- what the vector holds after its slice was lent
+whole : (c : goal.After-marks-3-1) → (take c.in_ok-marks.marks.len (c.mark.new.marks ++ drop (length c.mark.new.marks) c.in_ok-marks.marks.items) ≡ c.mark.new.marks)
+whole c =
+    let lent : c.deref_mut.result.now ≡ c.in_ok-marks.marks.items = c.deref_mut.ensures.value in
+    let size : length c.mark.new.marks ≡ length c.in_ok-marks.marks.items = c.mark.ensures.size ∙ ap length lent in
+    lent_back c.in_ok-marks.marks.len c.mark.new.marks c.in_ok-marks.marks.items (omega (arith, size, c.in_ok-marks.marks.ok))
+
+pub returns-clause-size : goal.returns-clause-size
+returns-clause-size c =
+    let bare : c.in_ok-marks.marks.items ≡ replicate c.args.count false = c.in_ok-marks.ensures.items_if_clones_equal (λ y h. h) in
+    let lent : c.deref_mut.result.now ≡ c.in_ok-marks.marks.items = c.deref_mut.ensures.value in
+    ap length (whole c) ∙ c.mark.ensures.size ∙ ap length (lent ∙ bare) ∙ length-replicate c.args.count false
+
+pub returns-clause-marks : goal.returns-clause-marks
+returns-clause-marks c = λ v.
+    let bare : c.in_ok-marks.marks.items ≡ replicate c.args.count false = c.in_ok-marks.ensures.items_if_clones_equal (λ y h. h) in
+    let lent : c.deref_mut.result.now ≡ c.in_ok-marks.marks.items = c.deref_mut.ensures.value in
+    ap (λ z. mark_of z v) (whole c)
+    ∙ marks_only c.mark.new.marks c.deref_mut.result.now c.as_slice.result.now v (ap (λ z. mark_of z v) (lent ∙ bare) ∙ bare_mark c.args.count v) (c.mark.ensures.marks v)
+    ∙ ap (λ xs. has xs v) c.as_slice.ensures.nodes

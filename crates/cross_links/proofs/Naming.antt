@@ -1,0 +1,117 @@
+-- Terms that name paths added to a pool are a recipe where the wanted terms are, and how much the pool holds then.
+use Rattle.std.proofs.Common.{take, drop, ◌-◌, ℕ, zero, suc, ◌+◌, ◌*◌, ◌<◌, ◌≤◌, ◌≡◌, Bool, true, List, [], ◌∷◌, ◌++◌, length, get_or, ℤ, All, refl, sym, ap, ap₂, subst, ◌∙◌, inl, inr, arith, length-append}
+use Rattle.std.proofs.lemmas.Bool.{both_ways}
+use Rattle.std.proofs.lemmas.List.{append-nil, append_assoc, map-append, length-map, get_or-append-add}
+use Rattle.std.proofs.lemmas.List.Elements.{All-map, All-tail}
+use Rattle.std.proofs.lemmas.Map.Steps.{length-le_from_distinct_below}
+use Rattle.tomo_base.specs.Network.{Network, IsGraph}
+use Rattle.tomo_base.specs.Sets.{has}
+use Rattle.tomo_base.specs.Walks.{StepsFrom}
+use Rattle.tomo_base.specs.Identify.{IsMonitorPath}
+use Rattle.tomo_base.proofs.Links.{linked_below}
+use Rattle.simple_path.specs.declared.recipe.Term.{Term}
+use Rattle.simple_path.specs.Terms.{path_terms}
+use Rattle.simple_path.specs.Pools.{nodes_in}
+use Rattle.simple_path.proofs.Pools.{nodes_in-append}
+use Rattle.unit_flow.proofs.Bridge.{has_same, distinct_of}
+use Rattle.cross_links.specs.CrossRecipe.{IsCrossRecipe, AddsRecipe}
+use Rattle.cross_links.specs.Joining.{turned_onto, numbered, paths_of, Names}
+use Rattle.unit_flow.specs.Flows.{later_of}
+use Rattle.cross_links.proofs.Found.{rest_from}
+use Rattle.cross_links.proofs.Turned.{length-turned_onto}
+use Rattle.cross_links.proofs.Members.{has_none, has_cases}
+
+-- ---- one term after the other
+-- at first none
+pub names_none : (old : List (List ℕ)) → Names old old [] []
+names_none old = record { grown = sym (append-nil old); named = refl }
+
+-- the numbers go on
+numbered-push : (k : ℕ) (ts : List (ℤ × List ℕ)) (c : ℤ) (p : List ℕ) → numbered k (ts ++ (c, p) ∷ []) ≡ numbered k ts ++ (record { coef = c; path = k + length ts }) ∷ []
+numbered-push k [] c p = ap (λ n. (record { coef = c; path = n }) ∷ []) (let e : k ≡ k + 0 = omega arith in e)
+numbered-push k (t ∷ ts) c p =
+    let e : (k + 1) + length ts ≡ k + length (t ∷ ts) = omega arith in
+    ap (λ l. (record { coef = t.0; path = k }) ∷ l) (numbered-push (k + 1) ts c p ∙ ap (λ n. numbered (k + 1) ts ++ (record { coef = c; path = n }) ∷ []) e)
+
+-- how many paths there are then
+pub names_many : (old new : List (List ℕ)) (terms : List Term) (wanted : List (ℤ × List ℕ)) → Names old new terms wanted → length new ≡ length old + length wanted
+names_many old new terms wanted n = ap length n.grown ∙ (length-append old (paths_of wanted) ∙ ap (λ k. length old + k) (length-map wanted (λ (t : ℤ × List ℕ). t.1)))
+
+-- one term more
+pub names_more : (old new : List (List ℕ)) (terms : List Term) (wanted : List (ℤ × List ℕ)) (new' : List (List ℕ)) (terms' : List Term) (c : ℤ) (p : List ℕ) → Names old new terms wanted →
+    new' ≡ new ++ p ∷ [] → terms' ≡ terms ++ (record { coef = c; path = length new }) ∷ [] → Names old new' terms' (wanted ++ (c, p) ∷ [])
+names_more old new terms wanted new' terms' c p n grown named = record {
+  grown = grown ∙ (ap (λ l. l ++ p ∷ []) n.grown ∙ (append_assoc old (paths_of wanted) (p ∷ []) ∙ ap (λ l. old ++ l) (sym (map-append (λ (t : ℤ × List ℕ). t.1) wanted ((c, p) ∷ [])))));
+  named = named ∙ (ap₂ (λ l k. l ++ (record { coef = c; path = k }) ∷ []) n.named (names_many old new terms wanted n) ∙ sym (numbered-push (length old) wanted c p));
+}
+
+-- ---- what they are
+-- as many terms as wanted
+length-numbered : (k : ℕ) (ts : List (ℤ × List ℕ)) → length (numbered k ts) ≡ length ts
+length-numbered k [] = refl
+length-numbered k (t ∷ ts) = omega (arith, length-numbered (k + 1) ts)
+
+-- each with its number
+path_numbered : (n : ℕ) (ts : List (ℤ × List ℕ)) (k : ℕ) (d : Term) → k < length (numbered n ts) → (get_or (numbered n ts) k d).path ≡ n + k
+path_numbered n [] k d l = absurd (omega (arith, l))
+path_numbered n (t ∷ ts) zero d l = let e : n ≡ n + 0 = omega arith in e
+path_numbered n (t ∷ ts) (suc k) d l = let e : (n + 1) + k ≡ n + suc k = omega arith in path_numbered (n + 1) ts k d (omega (arith, l)) ∙ e
+
+-- with the paths that they name they are the wanted terms
+named_terms : (front : List (List ℕ)) (ts : List (ℤ × List ℕ)) → path_terms (front ++ paths_of ts) (numbered (length front) ts) ≡ ts
+named_terms front [] = refl
+named_terms front (t ∷ ts) =
+    let at : get_or (front ++ t.1 ∷ paths_of ts) (length front) [] ≡ t.1 = ap (λ k. get_or (front ++ t.1 ∷ paths_of ts) k []) (let e : length front ≡ length front + 0 = omega arith in e) ∙ get_or-append-add front (t.1 ∷ paths_of ts) 0 [] in
+    let more : length (front ++ t.1 ∷ []) ≡ length front + 1 = length-append front (t.1 ∷ []) in
+    let rest : path_terms (front ++ t.1 ∷ paths_of ts) (numbered (length front + 1) ts) ≡ ts =
+    ap₂ (λ l k. path_terms l (numbered k ts)) (sym (append_assoc front (t.1 ∷ []) (paths_of ts))) (sym more) ∙ named_terms (front ++ t.1 ∷ []) ts in
+    ap₂ (λ p l. (t.0, p) ∷ l) at rest
+
+-- the nodes of a walk with a step are nodes
+walk_below : (g : Network) (x : ℕ) (p : List ℕ) → IsGraph g → StepsFrom g x p → x < g.nodes → (v : ℕ) → has (x ∷ p) v ≡ true → v < g.nodes
+walk_below g x [] graph steps l v h = elim (has_cases x [] v h) [ inl e ↦ subst (λ z. z < g.nodes) e l | inr e ↦ absurd (both_ways (has [] v) (has_none v) e) ]
+walk_below g x (y ∷ p) graph steps l v h = elim (has_cases x (y ∷ p) v h) [
+  | inl e ↦ subst (λ z. z < g.nodes) e l
+  | inr e ↦ walk_below g y p graph steps.1 (linked_below g.nodes g.links x y graph steps.0).1 v e
+]
+
+-- a monitor path has no more nodes than the graph
+pub path_short : (g : Network) (m : ℕ → Bool) (p : List ℕ) → IsGraph g → IsMonitorPath g m p → length p ≤ g.nodes
+path_short g m [] graph path = omega arith
+path_short g m (x ∷ []) graph path = absurd (let two = path.two in omega (arith, two))
+path_short g m (x ∷ y ∷ p) graph path =
+    let low = walk_below g x (y ∷ p) graph path.linked (linked_below g.nodes g.links x y graph path.linked.0).0 in
+    length-le_from_distinct_below (x ∷ y ∷ p) g.nodes (distinct_of (x ∷ y ∷ p) path.different) (λ v h. low v (has_same (x ∷ y ∷ p) v ∙ h))
+
+-- the terms are a recipe where those that were wanted are
+pub names_recipe : (g : Network) (m : ℕ → Bool) (i : ℕ) (old new : List (List ℕ)) (terms : List Term) (wanted : List (ℤ × List ℕ)) → IsGraph g → Names old new terms wanted → IsCrossRecipe g m i wanted → AddsRecipe g m i old new terms
+names_recipe g m i old new terms wanted graph n r =
+    let count : length terms ≡ length wanted = ap length n.named ∙ length-numbered (length old) wanted in
+    let same : path_terms new terms ≡ wanted = ap₂ path_terms n.grown n.named ∙ named_terms old wanted in record {
+      added = paths_of wanted;
+      grown = n.grown;
+      one_each = count ∙ sym (length-map wanted (λ (t : ℤ × List ℕ). t.1));
+      in_order = λ k d l. ap (λ ts. (get_or ts k d).path) n.named ∙ path_numbered (length old) wanted k d (subst (λ ts. k < length ts) n.named l);
+      paths = All-map (IsMonitorPath g m) (λ (t : ℤ × List ℕ). t.1) wanted r.paths;
+      short = All-map (λ p. length p ≤ g.nodes) (λ (t : ℤ × List ℕ). t.1) wanted (λ k d l. path_short g m (get_or wanted k d).1 graph (r.paths k d l));
+      recipe = subst (IsCrossRecipe g m i) (sym same) r;
+    }
+
+-- ---- room
+-- short paths hold few nodes
+pub nodes_short : (n : ℕ) (ts : List (ℤ × List ℕ)) → All (λ t. length t.1 ≤ n) ts → nodes_in (paths_of ts) ≤ length ts * n
+nodes_short n [] short = omega arith
+nodes_short n (t ∷ ts) short = omega (arith, nodes_short n ts (All-tail (λ (t : ℤ × List ℕ). length t.1 ≤ n) t ts short), short 0 t (omega arith))
+
+-- the pool has them more
+pub names_room : (n : ℕ) (old new : List (List ℕ)) (terms : List Term) (wanted : List (ℤ × List ℕ)) → Names old new terms wanted → All (λ t. length t.1 ≤ n) wanted → nodes_in new ≤ nodes_in old + length wanted * n
+names_room n old new terms wanted names short = omega (arith, ap nodes_in names.grown, nodes_in-append old (paths_of wanted), nodes_short n wanted short)
+
+-- one path more
+pub nodes_more : (old new : List (List ℕ)) (a b : List ℕ) → new ≡ old ++ turned_onto a b ∷ [] → nodes_in new ≡ nodes_in old + (length a + length b)
+nodes_more old new a b grown = omega (arith, ap nodes_in grown, nodes_in-append old (turned_onto a b ∷ []), length-turned_onto a b)
+
+-- a list without its first item, as it is read
+pub rest_is : (a : List ℕ) → take (length a - 1) (drop 1 a) ≡ later_of a
+rest_is [] = refl
+rest_is (x ∷ a) = rest_from (x ∷ a) 1

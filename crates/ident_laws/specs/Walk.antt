@@ -3,9 +3,8 @@ use Rattle.std.specs.Prelude.{ℕ, ◌≡◌, ◌<◌, ◌≤◌, ◌⊎◌, Boo
 use Rattle.tomo_base.specs.Network.{Network}
 use Rattle.tomo_base.specs.Sets.{without, Avoids}
 use Rattle.tomo_base.specs.BadParts.{NoBadPart, HasBadPart}
-use Rattle.tomo_base.specs.Pockets.{IsOwnPocket}
 use Rattle.tomo_base.specs.Lowest.{IsAllowed, IsLowestAllowed}
-use Rattle.ident_laws.specs.Laws.{trial, IsRank}
+use Rattle.ident_laws.specs.Laws.{HasOwnPocket, trial, IsRank}
 
 -- all nodes of rank t and above are tried: the set is allowed, has every allowed node of lower rank, and its higher members have to stay if they are not forced
 pub record IsTriedTo (g : Network) (rank : ℕ → ℕ) (forced barred : ℕ → Bool) (t : ℕ) (m : ℕ → Bool) : Type 0 where
@@ -32,12 +31,12 @@ WalkPasses = (g : Network) (rank : ℕ → ℕ) (forced barred m : ℕ → Bool)
 -- a node without a pocket of its own is left out
 abbrev pub WalkLeavesOut : Type 0
 WalkLeavesOut = (g : Network) (rank : ℕ → ℕ) (forced barred m rest : ℕ → Bool) (t u : ℕ) → IsRank g rank → IsNextBelow g rank t u → forced u ≡ false →
-    ((v : ℕ) → v < g.nodes → rest v ≡ without m u v) → ((s : ℕ → Bool) → IsOwnPocket g m u s → ⊥) →
+    ((v : ℕ) → v < g.nodes → rest v ≡ without m u v) → (HasOwnPocket g m u → ⊥) →
     IsTriedTo g rank forced barred t m → IsTriedTo g rank forced barred (rank u) rest
 
 -- a node with a pocket of its own stays
 abbrev pub WalkHolds : Type 0
-WalkHolds = (g : Network) (rank : ℕ → ℕ) (forced barred m s : ℕ → Bool) (t u : ℕ) → IsRank g rank → IsNextBelow g rank t u → IsOwnPocket g m u s →
+WalkHolds = (g : Network) (rank : ℕ → ℕ) (forced barred m : ℕ → Bool) (t u : ℕ) → IsRank g rank → IsNextBelow g rank t u → HasOwnPocket g m u →
     IsTriedTo g rank forced barred t m → IsTriedTo g rank forced barred (rank u) m
 
 -- where all nodes are tried, the set is the lowest

@@ -1,0 +1,51 @@
+-- Trying the nodes by their own numbers, from the highest down.
+use Rattle.std.proofs.Common.{ℕ, Bool, true, not, length, refl, arith, ◌≡◌, ◌<◌, ◌≤◌, ◌-◌, ◌==◌, List, All, sym, ◌∙◌}
+use Rattle.std.proofs.lemmas.Bool.{true≢false, and_parts, eq-eqb, eqb-true}
+use Rattle.tomo_base.specs.Network.{Network, IsGraph}
+use Rattle.tomo_base.specs.Table.{AreHops}
+use Rattle.tomo_base.specs.declared.graph.Hop.{Hop}
+use Rattle.tomo_base.specs.Sets.{has, without, size, outside}
+use Rattle.tomo_base.specs.BadParts.{NoBadPart, IsCutOff}
+use Rattle.tomo_base.proofs.Ascending.{All-has, All-from_has}
+use Rattle.tomo_base.proofs.Counts.{count_gives}
+use Rattle.tomo_base.proofs.Touching.{outside-single, length-hops}
+use Rattle.ident_laws.specs.Laws.{HasOwnPocket, OwnPocketIsCutOff, IsRank}
+use Rattle.drop_place.specs.Leaving.{LeavesOut}
+use Rattle.ident_laws.specs.Walk.{IsNextBelow}
+
+-- a set of all nodes has no bad part
+pub all_good : (g : Network) (m : ℕ → Bool) → ((v : ℕ) → v < g.nodes → m v ≡ true) → NoBadPart g m
+all_good g m all q bad = let v = count_gives g.nodes q bad.nonempty in true≢false (sym (all v.0 v.1) ∙ bad.free v.0 v.1 v.2)
+
+-- a node with at most two neighbours is a pocket of its own
+pub narrow_own : (g : Network) (m : ℕ → Bool) (u : ℕ) (hops : List Hop) → IsGraph g → AreHops g.links u hops → length hops < 3 → HasOwnPocket g m u
+narrow_own g m u hops graph are few = (
+  (λ v. v == u),
+  record {
+    holds = eq-eqb u u refl;
+    only = λ v l h mv. eqb-true v u h;
+    few = omega (arith, outside-single g (λ v. v == u) u (λ w h. eqb-true w u h), length-hops g u hops graph are);
+  },
+)
+
+-- the node before t has the highest number below t
+pub next_number : (g : Network) (t : ℕ) → 0 < t → t ≤ g.nodes → IsNextBelow g (λ v. v) t (t - 1)
+next_number g t some few = record { is_node = omega arith; lower = omega arith; highest = λ v l lt. omega arith }
+
+-- what is left of nodes are nodes
+pub rest_nodes : (n u : ℕ) (m rest : List ℕ) → All (λ v. v < n) m → ((v : ℕ) → has rest v ≡ without (has m) u v) → All (λ v. v < n) rest
+rest_nodes n u m rest all is = All-from_has (λ v. v < n) rest (λ v h. All-has (λ w. w < n) m all v (and_parts (has m v) (not (v == u)) (sym (is v) ∙ h)).0)
+
+-- where some three nodes cut u off from the rest, it has no pocket of its own
+pub three_leave_out : (g : Network) (m : ℕ → Bool) (u : ℕ) (rest : List ℕ) → OwnPocketIsCutOff → ((v : ℕ) → has rest v ≡ without m u v) → ((s : ℕ → Bool) (k : ℕ) → IsCutOff g (has rest) u k s → 3 ≤ k) → LeavesOut g m u rest
+three_leave_out g m u rest law is three = record {
+  rest_is = is;
+  none = λ (s, own). (
+      let cut = (law g m (has rest) s u (size g (outside g s)) (λ v l. is v) refl).0 own in
+      let many : 3 ≤ size g (outside g s) = three s (size g (outside g s)) cut.0 in
+      omega (arith, many, cut.1));
+}
+
+-- numbers are ranks
+pub numbers_rank : (g : Network) → IsRank g (λ v. v)
+numbers_rank g u v lu lv e = e

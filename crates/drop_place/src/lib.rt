@@ -1,0 +1,6 @@
+//! The lowest set of monitors.
+#![tactic(auto)]
+
+mod lowest;
+
+pub use lowest::place;

@@ -1,0 +1,9 @@
+pub mod Members
+pub mod Turned
+pub mod Growing
+pub mod Ways
+pub mod Arms
+pub mod Cases
+pub mod Places
+pub mod Terms
+pub mod Identifying

@@ -1,0 +1,3 @@
+pub mod CrossRecipe
+pub mod Joining
+pub mod Laws

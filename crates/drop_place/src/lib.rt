@@ -2,5 +2,7 @@
 #![tactic(auto)]
 
 mod lowest;
+#[cfg(test)]
+mod tests;
 
 pub use lowest::place;

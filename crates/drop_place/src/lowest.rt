@@ -2,13 +2,13 @@
 ghost use Rattle.std.specs.Prelude.{◌≡◌, ◌<◌, ◌≤◌, ℕ, All, IfOk, MatchOption, nat_lt};
 ghost use Rattle.std.specs.List.Sorted.{IsStrictlyIncreasing};
 ghost use Rattle.tomo_base.specs.Walks.{IsConnected};
-ghost use Rattle.tomo_base.specs.BadParts.{NoBadPart};
-ghost use Rattle.tomo_base.specs.Lowest.{IsLowestAllowed};
-ghost use Rattle.tomo_base.specs.Sets.{has, nothing};
+ghost use Rattle.tomo_base.specs.Lowest.{IsLowest};
+ghost use Rattle.tomo_base.specs.Sets.{has};
 ghost use Rattle.ident_laws.specs.Laws.{HasOwnPocket};
 ghost use Rattle.drop_place.specs.Leaving.{LeavesOut};
 
-use ident_laws::{lowest_by_walk, own_pocket_is_cut_off};
+use cross_links::laws::no_bad_part_identifies;
+use ident_laws::{lowest_by_number, lowest_by_walk, lowest_identifies, own_pocket_is_cut_off};
 use std::alloc::Global;
 use tomo_base::{Graph, NoMemory, NodeSet};
 use unit_flow::{Fanned, fan, others};
@@ -19,11 +19,14 @@ use unit_flow::{Fanned, fan, others};
 pub fn place(alloc: Global, g: &Graph) -> Result<NodeSet, NoMemory>
     requires connected { IsConnected g.now }
     requires three { 3 ≤ g.now.nodes }
-    ensures lowest { IfOk result (λ m. IsLowestAllowed g.now (NoBadPart g.now) (λ v. v) nothing nothing (has m)) }
+    ensures lowest { IfOk result (λ m. IsLowest g.now (has m)) }
     ensures nodes { IfOk result (λ m. All (λ v. v < g.now.nodes) m) }
     ensures ascending { IfOk result (λ m. IsStrictlyIncreasing m) }
 {
     lowest_by_walk();
+    lowest_identifies();
+    lowest_by_number();
+    no_bad_part_identifies();
     let mut kept = all_nodes(alloc, g)?;
     for u in (0..g.nodes()).rev() {
         if let Some(rest) = leave_out(alloc, g, &kept, u)? {

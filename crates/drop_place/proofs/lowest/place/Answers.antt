@@ -41,4 +41,9 @@ loop-u-preserved c =
     }
 
 pub returns-clause-lowest : goal.returns-clause-lowest
-returns-clause-lowest c = c.lowest_by_walk.ensures.ends c.args.g.now (λ v. v) nothing nothing (has c.loop-u.kept) c.loop-u.u (λ v l. omega (arith, c.loop-u-test.false)) c.loop-u.invariant.tried
+returns-clause-lowest c =
+    let g = c.args.g.now in
+    let m = has c.loop-u.kept in
+    let low = c.lowest_by_walk.ensures.ends g (λ v. v) nothing nothing m c.loop-u.u (λ v l. omega (arith, c.loop-u-test.false)) c.loop-u.invariant.tried in
+    let enough = c.no_bad_part_identifies.ensures g c.nodes-u.ensures.graph in
+    (c.lowest_by_number.ensures g m).0 ((c.lowest_identifies.ensures g (λ v. v) nothing nothing m c.nodes-u.ensures.graph c.requires.connected (omega (arith, c.requires.three)) enough).0 low)

@@ -1,12 +1,11 @@
 -- Trying the nodes by their own numbers, from the highest down.
-use Rattle.std.proofs.Common.{ℕ, Bool, true, not, length, refl, arith, ◌≡◌, ◌<◌, ◌≤◌, ◌-◌, ◌==◌, List, All, sym, ◌∙◌}
-use Rattle.std.proofs.lemmas.Bool.{true≢false, and_parts, eq-eqb, eqb-true}
+use Rattle.std.proofs.Common.{ℕ, Bool, true, length, refl, arith, ◌≡◌, ◌<◌, ◌≤◌, ◌-◌, ◌==◌, List, All, sym, ◌∙◌}
+use Rattle.std.proofs.lemmas.Bool.{true≢false, eq-eqb, eqb-true}
 use Rattle.tomo_base.specs.Network.{Network, IsGraph}
 use Rattle.tomo_base.specs.Table.{AreHops}
 use Rattle.tomo_base.specs.declared.graph.Hop.{Hop}
 use Rattle.tomo_base.specs.Sets.{has, without, size, outside}
 use Rattle.tomo_base.specs.BadParts.{NoBadPart, IsCutOff}
-use Rattle.tomo_base.proofs.Ascending.{All-has, All-from_has}
 use Rattle.tomo_base.proofs.Counts.{count_gives}
 use Rattle.tomo_base.proofs.Touching.{outside-single, length-hops}
 use Rattle.ident_laws.specs.Laws.{HasOwnPocket, OwnPocketIsCutOff, IsRank}
@@ -32,14 +31,11 @@ narrow_own g m u hops graph are few = (
 pub next_number : (g : Network) (t : ℕ) → 0 < t → t ≤ g.nodes → IsNextBelow g (λ v. v) t (t - 1)
 next_number g t some few = record { is_node = omega arith; lower = omega arith; highest = λ v l lt. omega arith }
 
--- what is left of nodes are nodes
-pub rest_nodes : (n u : ℕ) (m rest : List ℕ) → All (λ v. v < n) m → ((v : ℕ) → has rest v ≡ without (has m) u v) → All (λ v. v < n) rest
-rest_nodes n u m rest all is = All-from_has (λ v. v < n) rest (λ v h. All-has (λ w. w < n) m all v (and_parts (has m v) (not (v == u)) (sym (is v) ∙ h)).0)
-
--- where some three nodes cut u off from the rest, it has no pocket of its own
-pub three_leave_out : (g : Network) (m : ℕ → Bool) (u : ℕ) (rest : List ℕ) → OwnPocketIsCutOff → ((v : ℕ) → has rest v ≡ without m u v) → ((s : ℕ → Bool) (k : ℕ) → IsCutOff g (has rest) u k s → 3 ≤ k) → LeavesOut g m u rest
-three_leave_out g m u rest law is three = record {
+-- where no fewer than three nodes cut u off from the rest, it has no pocket of its own
+pub three_leave_out : (g : Network) (m : ℕ → Bool) (u : ℕ) (rest : List ℕ) → OwnPocketIsCutOff → ((v : ℕ) → has rest v ≡ without m u v) → All (λ v. v < g.nodes) rest → ((s : ℕ → Bool) (k : ℕ) → IsCutOff g (has rest) u k s → 3 ≤ k) → LeavesOut g m u rest
+three_leave_out g m u rest law is below three = record {
   rest_is = is;
+  nodes = below;
   none = λ (s, own). (
       let cut = (law g m (has rest) s u (size g (outside g s)) (λ v l. is v) refl).0 own in
       let many : 3 ≤ size g (outside g s) = three s (size g (outside g s)) cut.0 in

@@ -1,10 +1,11 @@
 -- Marks of the nodes of a list, and the nodes that are marked.
-use Rattle.std.proofs.Common.{refl, ◌≡◌, ℕ, ◌+◌, ◌<◌, ◌≤◌, Bool, true, false, not, ◌&&◌, ◌||◌, ◌==◌, List, [], ◌∷◌, length, get_or, set, take, sym, ap, ◌∙◌, inl, inr, arith, get_or-set_same, get_or-set_other}
-use Rattle.std.proofs.lemmas.Bool.{cases_eq, eq-eqb, ne_eqb}
+use Rattle.std.proofs.Common.{refl, ◌≡◌, ℕ, ◌+◌, ◌<◌, ◌≤◌, Bool, true, false, not, ◌&&◌, ◌||◌, ◌==◌, List, [], ◌∷◌, All, length, get_or, set, take, sym, ap, ◌∙◌, inl, inr, arith, get_or-set_same, get_or-set_other}
+use Rattle.std.proofs.lemmas.Bool.{cases_eq, eq-eqb, ne_eqb, and_parts}
 use Rattle.std.proofs.lemmas.List.{take_more, get_or_past}
 use Rattle.tomo_base.specs.Search.{mark_of}
 use Rattle.tomo_base.specs.Sets.{has, without}
 use Rattle.tomo_base.proofs.Members.{has-append}
+use Rattle.tomo_base.proofs.Ascending.{All-has, All-from_has}
 
 -- one mark more
 mark_set : (marks : List Bool) (v w : ℕ) → v < length marks → mark_of (set marks v true) w ≡ ((v == w) || mark_of marks w)
@@ -60,3 +61,7 @@ others_same rest xs i d v x w l same is before =
   where
     but : (a b : Bool) → (a && not b) ≡ ((a || (b || false)) && not b)
     but a b = grind arith
+
+-- they are below what the nodes are below
+pub others_below : (rest xs : List ℕ) (x n : ℕ) → ((v : ℕ) → has rest v ≡ without (has xs) x v) → All (λ v. v < n) xs → All (λ v. v < n) rest
+others_below rest xs x n is all = All-from_has (λ v. v < n) rest (λ v h. All-has (λ w. w < n) xs all v (and_parts (has xs v) (not (v == x)) (sym (is v) ∙ h)).0)

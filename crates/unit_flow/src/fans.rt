@@ -34,7 +34,8 @@ pub fn fan(alloc: Global, g: &Graph, source: u32, targets: &NodeSet) -> Result<F
 
 /// The other nodes of a set, as targets of paths from one of them.
 pub fn others(alloc: Global, m: &NodeSet, x: u32) -> Result<NodeSet, NoMemory>
-    ensures { IfOk result (λ rest. (v : ℕ) → has rest v ≡ without (has m.now) x v) }
+    ensures nodes { IfOk result (λ rest. (v : ℕ) → has rest v ≡ without (has m.now) x v) }
+    ensures below { IfOk result (λ rest. (n : ℕ) → All (λ v. v < n) m.now → All (λ v. v < n) rest) }
 {
     let mut rest = NodeSet::new(alloc);
     for &v in m.as_slice() {

@@ -1,16 +1,16 @@
 use Rattle.std.proofs.Common.{subst}
 use Rattle.tomo_base.specs.Sets.{has}
 use Rattle.unit_flow.specs.Fan.{IsFan}
-use Rattle.drop_place.proofs.Placing.{narrow_own, rest_nodes, three_leave_out}
+use Rattle.drop_place.proofs.Placing.{narrow_own, three_leave_out}
 use Rattle.drop_place.proofs.lowest.leave_out.Goals as goal
 
 pub returns-then-hops-lt3 : goal.returns-then-hops-lt3
 returns-then-hops-lt3 c = narrow_own c.args.g.now (has c.args.m.now) c.args.u c.hops.result.now c.nodes-nodes.ensures.graph c.hops.ensures c.if-hops-lt3.true
 
 pub fan-requires-clause-targets : goal.fan-requires-clause-targets
-fan-requires-clause-targets c = rest_nodes c.args.g.now.nodes c.args.u c.args.m.now c.in_ok-rest.rest c.requires.nodes c.in_ok-rest.ensures
+fan-requires-clause-targets c = c.in_ok-rest.ensures.below c.args.g.now.nodes c.requires.nodes
 
 pub returns-in-Three : goal.returns-in-Three
 returns-in-Three c =
     let fanned = subst (IsFan c.args.g.now c.args.u c.in_ok-rest.rest) c.in-Three.is c.in_ok-fan.ensures in
-    three_leave_out c.args.g.now (has c.args.m.now) c.args.u c.in_ok-rest.rest c.own_pocket_is_cut_off.ensures c.in_ok-rest.ensures fanned.3
+    three_leave_out c.args.g.now (has c.args.m.now) c.args.u c.in_ok-rest.rest c.own_pocket_is_cut_off.ensures c.in_ok-rest.ensures.nodes (c.in_ok-rest.ensures.below c.args.g.now.nodes c.requires.nodes) fanned.3

@@ -3,7 +3,7 @@ use Rattle.tomo_base.specs.Sets.{has, nothing}
 use Rattle.tomo_base.proofs.Ascending.{All-from_has}
 use Rattle.ident_laws.specs.Laws.{HasOwnPocket}
 use Rattle.drop_place.specs.Leaving.{LeavesOut}
-use Rattle.drop_place.proofs.Placing.{all_good, next_number, rest_nodes, numbers_rank}
+use Rattle.drop_place.proofs.Placing.{all_good, next_number, numbers_rank}
 use Rattle.drop_place.proofs.lowest.place.Goals as goal
 
 pub loop-u-init : goal.loop-u-init
@@ -25,7 +25,7 @@ loop-u-preserved-in-Some c =
     record {
       tried = c.lowest_by_walk.ensures.leaves_out g (λ v. v) nothing nothing (has kept) (has c.in-Some.rest) u (u - 1) (numbers_rank g)
           (next_number g u c.loop-u-test.true (omega (arith, c.loop-u.auto.u, c.nodes-u.ensures.nodes))) refl (λ v l. leaves.rest_is v) leaves.none c.loop-u.invariant.tried;
-      nodes = rest_nodes g.nodes (u - 1) kept c.in-Some.rest c.loop-u.invariant.nodes leaves.rest_is;
+      nodes = leaves.nodes;
     }
 
 pub loop-u-preserved : goal.loop-u-preserved

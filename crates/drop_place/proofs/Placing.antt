@@ -1,15 +1,13 @@
 -- Trying the nodes by their own numbers, from the highest down.
-use Rattle.std.proofs.Common.{ℕ, Bool, true, length, refl, arith, ◌≡◌, ◌<◌, ◌≤◌, ◌-◌, ◌==◌, List, All, sym, ◌∙◌}
+use Rattle.std.proofs.Common.{ℕ, Bool, true, length, refl, arith, ◌≡◌, ◌<◌, ◌≤◌, ◌-◌, ◌==◌, List, sym, ◌∙◌}
 use Rattle.std.proofs.lemmas.Bool.{true≢false, eq-eqb, eqb-true}
 use Rattle.tomo_base.specs.Network.{Network, IsGraph}
 use Rattle.tomo_base.specs.Table.{AreHops}
 use Rattle.tomo_base.specs.declared.graph.Hop.{Hop}
-use Rattle.tomo_base.specs.Sets.{has, without, size, outside}
-use Rattle.tomo_base.specs.BadParts.{NoBadPart, IsCutOff}
+use Rattle.tomo_base.specs.BadParts.{NoBadPart}
 use Rattle.tomo_base.proofs.Counts.{count_gives}
 use Rattle.tomo_base.proofs.Touching.{outside-single, length-hops}
-use Rattle.ident_laws.specs.Laws.{HasOwnPocket, OwnPocketIsCutOff, IsRank}
-use Rattle.drop_place.specs.Leaving.{LeavesOut}
+use Rattle.ident_laws.specs.Laws.{HasOwnPocket, IsRank}
 use Rattle.ident_laws.specs.Walk.{IsNextBelow}
 
 -- a set of all nodes has no bad part
@@ -30,17 +28,6 @@ narrow_own g m u hops graph are few = (
 -- the node before t has the highest number below t
 pub next_number : (g : Network) (t : ℕ) → 0 < t → t ≤ g.nodes → IsNextBelow g (λ v. v) t (t - 1)
 next_number g t some few = record { is_node = omega arith; lower = omega arith; highest = λ v l lt. omega arith }
-
--- where no fewer than three nodes cut u off from the rest, it has no pocket of its own
-pub three_leave_out : (g : Network) (m : ℕ → Bool) (u : ℕ) (rest : List ℕ) → OwnPocketIsCutOff → ((v : ℕ) → has rest v ≡ without m u v) → All (λ v. v < g.nodes) rest → ((s : ℕ → Bool) (k : ℕ) → IsCutOff g (has rest) u k s → 3 ≤ k) → LeavesOut g m u rest
-three_leave_out g m u rest law is below three = record {
-  rest_is = is;
-  nodes = below;
-  none = λ (s, own). (
-      let cut = (law g m (has rest) s u (size g (outside g s)) (λ v l. is v) refl).0 own in
-      let many : 3 ≤ size g (outside g s) = three s (size g (outside g s)) cut.0 in
-      omega (arith, many, cut.1));
-}
 
 -- numbers are ranks
 pub numbers_rank : (g : Network) → IsRank g (λ v. v)

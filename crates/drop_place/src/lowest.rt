@@ -8,7 +8,7 @@ ghost use Rattle.ident_laws.specs.Laws.{HasOwnPocket};
 ghost use Rattle.drop_place.specs.Leaving.{LeavesOut};
 
 use cross_links::laws::no_bad_part_identifies;
-use ident_laws::{lowest_by_number, lowest_by_walk, lowest_identifies, own_pocket_is_cut_off};
+use ident_laws::{lowest_by_number, lowest_by_walk, lowest_identifies, own_pockets_by_cuts};
 use std::alloc::Global;
 use tomo_base::{Graph, NoMemory, NodeSet};
 use unit_flow::{Fanned, fan, others};
@@ -55,7 +55,7 @@ fn leave_out(alloc: Global, g: &Graph, m: &NodeSet, u: u32) -> Result<Option<Nod
     requires nodes { All (λ v. v < g.now.nodes) m.now }
     ensures { IfOk result (λ o. MatchOption o (HasOwnPocket g.now (has m.now) u) (LeavesOut g.now (has m.now) u)) }
 {
-    own_pocket_is_cut_off();
+    own_pockets_by_cuts();
     let _nodes = g.nodes();
     if g.hops(u).len() < 3 {
         return Ok(None);

@@ -1,16 +1,15 @@
 -- Labels that gather homes to home pockets: each home in turn gets a new label, with all that has the label of a node of it.
-use Rattle.std.specs.Prelude.{ℕ, ◌≡◌, ◌<◌, ◌≤◌, Bool, not, ◌&&◌, ◌||◌, ◌==◌, cond, IsTrue}
+use Rattle.std.specs.Prelude.{ℕ, ◌≡◌, ◌<◌, ◌≤◌, ◌⊎◌, Bool, false, ◌||◌, ◌==◌, IsTrue}
 use Rattle.tomo_base.specs.Network.{Network}
-use Rattle.tomo_base.specs.Sets.{any_below}
 use Rattle.tomo_base.specs.Pockets.{HoldsHomesItMeets, IsHomePocket}
 
--- the label is not 0, and some node of the set has it
-unfoldable pub is_met : ℕ → (ℕ → ℕ) → (ℕ → Bool) → ℕ → Bool
-is_met n label s l = not (l == 0) && any_below n (λ u. s u && (label u == l))
+-- the label is above 0, and some node of the set has it
+abbrev pub IsMet : ℕ → (ℕ → ℕ) → (ℕ → Bool) → ℕ → Type 0
+IsMet n label s l = (1 ≤ l) × (u : ℕ) × (u < n) × IsTrue (s u) × (label u ≡ l)
 
 -- the new labels: c for the nodes of the set, and for those with a label that it meets
-unfoldable pub joined : ℕ → (ℕ → ℕ) → (ℕ → Bool) → ℕ → ℕ → ℕ
-joined n label s c v = cond (s v || is_met n label s (label v)) c (label v)
+abbrev pub AreJoined : ℕ → (ℕ → ℕ) → (ℕ → Bool) → ℕ → (ℕ → ℕ) → Type 0
+AreJoined n label s c next = (v : ℕ) → v < n → ((IsTrue (s v) ⊎ IsMet n label s (label v)) × (next v ≡ c)) ⊎ ((s v ≡ false) × (IsMet n label s (label v) → ⊥) × (next v ≡ label v))
 
 -- each member of k has the label of all its home, from 1 to b; such a label is some member's, and who has it lies in every set that holds another with it and the homes that it meets
 pub record AreLabels (g : Network) (home : ℕ → ℕ → Bool) (k : ℕ → Bool) (b : ℕ) (label : ℕ → ℕ) : Type 0 where
@@ -28,7 +27,7 @@ LabelsBegin = (g : Network) (home : ℕ → ℕ → Bool) (k : ℕ → Bool) (la
 abbrev pub LabelsGrow : Type 0
 LabelsGrow = (g : Network) (home grown : ℕ → ℕ → Bool) (k more : ℕ → Bool) (b c x : ℕ) (label next : ℕ → ℕ) → AreLabels g home k b label → b < c → x < g.nodes →
     ((y : ℕ) → y < g.nodes → more y ≡ (k y || (x == y))) → ((y v : ℕ) → y < g.nodes → v < g.nodes → IsTrue (k y) → grown y v ≡ home y v) → IsTrue (grown x x) →
-    ((v : ℕ) → v < g.nodes → next v ≡ joined g.nodes label (grown x) c v) → AreLabels g grown more c next
+    AreJoined g.nodes label (grown x) c next → AreLabels g grown more c next
 
 -- at the end the nodes with one label are a home pocket
 abbrev pub LabelsEnd : Type 0

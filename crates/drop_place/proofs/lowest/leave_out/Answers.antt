@@ -1,7 +1,7 @@
 use Rattle.std.proofs.Common.{subst}
 use Rattle.tomo_base.specs.Sets.{has}
 use Rattle.unit_flow.specs.Fan.{IsFan}
-use Rattle.drop_place.proofs.Placing.{narrow_own, three_leave_out}
+use Rattle.drop_place.proofs.Placing.{narrow_own}
 use Rattle.drop_place.proofs.lowest.leave_out.Goals as goal
 
 pub returns-then-hops-lt3 : goal.returns-then-hops-lt3
@@ -13,4 +13,8 @@ fan-requires-clause-targets c = c.in_ok-rest.ensures.below c.args.g.now.nodes c.
 pub returns-in-Three : goal.returns-in-Three
 returns-in-Three c =
     let fanned = subst (IsFan c.args.g.now c.args.u c.in_ok-rest.rest) c.in-Three.is c.in_ok-fan.ensures in
-    three_leave_out c.args.g.now (has c.args.m.now) c.args.u c.in_ok-rest.rest c.own_pocket_is_cut_off.ensures c.in_ok-rest.ensures.nodes (c.in_ok-rest.ensures.below c.args.g.now.nodes c.requires.nodes) fanned.3
+    record {
+      rest_is = c.in_ok-rest.ensures.nodes;
+      nodes = c.in_ok-rest.ensures.below c.args.g.now.nodes c.requires.nodes;
+      none = c.own_pockets_by_cuts.ensures.none c.args.g.now (has c.args.m.now) (has c.in_ok-rest.rest) c.args.u (λ v l. c.in_ok-rest.ensures.nodes v) fanned.3;
+    }

@@ -1,16 +1,23 @@
-use Rattle.std.proofs.Common.{subst, arith}
-use Rattle.tomo_base.specs.Sets.{has}
+use Rattle.std.proofs.Common.{ℕ, ◌≡◌, ◌==◌, ◌≤◌, subst, arith}
+use Rattle.tomo_base.specs.Sets.{has, degree}
+use Rattle.tomo_base.proofs.Touching.{length-hops}
 use Rattle.unit_flow.specs.Fan.{IsFan}
-use Rattle.pocket_bound.proofs.Alone.{alone_home, alone_nodes}
+use Rattle.pocket_bound.proofs.Alone.{only_one, alone_nodes}
 use Rattle.pocket_bound.proofs.homes.home.Goals as goal
+
+-- the node was put into the empty set
+alone : (c : goal.In_ok-insert) (v : ℕ) → has c.insert.new.self v ≡ (c.args.x == v)
+alone c v = only_one c.insert.new.self c.args.x v (rw c.new-alone.ensures at (c.in_ok-insert.ensures.nodes v))
 
 pub returns-then-hops-lt3-clause-home : goal.returns-then-hops-lt3-clause-home
 returns-then-hops-lt3-clause-home c =
-    alone_home c.args.g.now (has c.args.m.now) c.args.x c.insert.new.self c.hops.result.now c.nodes-nodes.ensures.graph c.hops.ensures c.if-hops-lt3.true
-    (λ v. rw c.new-alone.ensures at (c.in_ok-insert.ensures.nodes v))
+    let g = c.args.g.now in
+    let x = c.args.x in
+    let narrow : degree g x ≤ 2 = omega (arith, c.if-hops-lt3.true, length-hops g x c.hops.result.now c.nodes-nodes.ensures.graph c.hops.ensures) in
+    (c.own_pockets_by_cuts.ensures.narrow g (has c.args.m.now) (has c.insert.new.self) x narrow (alone c)).1
 
 pub returns-then-hops-lt3-clause-nodes : goal.returns-then-hops-lt3-clause-nodes
-returns-then-hops-lt3-clause-nodes c = alone_nodes c.args.g.now.nodes c.args.x c.insert.new.self c.requires.node (λ v. rw c.new-alone.ensures at (c.in_ok-insert.ensures.nodes v))
+returns-then-hops-lt3-clause-nodes c = alone_nodes c.args.g.now.nodes c.args.x c.insert.new.self c.requires.node (alone c)
 
 pub fan-requires-clause-targets : goal.fan-requires-clause-targets
 fan-requires-clause-targets c = c.in_ok-rest.ensures.below c.args.g.now.nodes c.requires.nodes

@@ -4,7 +4,7 @@ use Rattle.tomo_base.specs.Network.{Network}
 use Rattle.tomo_base.specs.Pockets.{IsHome}
 use Rattle.ident_laws.specs.Labels.{AreLabels}
 
--- one label for each node, from 0 to b, which gather the homes of the members of k
+-- a label for each node, none above b, by which the homes of the members of k are gathered
 pub record AreHomeLabels (g : Network) (m k : ℕ → Bool) (b : ℕ) (labels : List ℕ) : Type 0 where
   pub one_each : length labels ≡ g.nodes
   pub home : ℕ → ℕ → Bool

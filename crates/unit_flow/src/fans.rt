@@ -1,6 +1,6 @@
 // Three paths from a node to a set of nodes.
-ghost use Rattle.std.specs.Prelude.{◌≡◌, ◌<◌, false, All, IfOk};
-ghost use Rattle.tomo_base.specs.Sets.{has};
+ghost use Rattle.std.specs.Prelude.{◌≡◌, ◌<◌, ℕ, false, All, IfOk};
+ghost use Rattle.tomo_base.specs.Sets.{has, without};
 ghost use Rattle.unit_flow.specs.Fan.{IsFan};
 
 use crate::flow::{Flow, Widened};
@@ -30,4 +30,18 @@ pub fn fan(alloc: Global, g: &Graph, source: u32, targets: &NodeSet) -> Result<F
         }
     }
     Ok(Fanned::Three(flow))
+}
+
+/// The other nodes of a set, as targets of paths from one of them.
+pub fn others(alloc: Global, m: &NodeSet, x: u32) -> Result<NodeSet, NoMemory>
+    ensures nodes { IfOk result (λ rest. (v : ℕ) → has rest v ≡ without (has m.now) x v) }
+    ensures below { IfOk result (λ rest. (n : ℕ) → All (λ v. v < n) m.now → All (λ v. v < n) rest) }
+{
+    let mut rest = NodeSet::new(alloc);
+    for &v in m.as_slice() {
+        if v != x {
+            rest.insert(v)?;
+        }
+    }
+    Ok(rest)
 }

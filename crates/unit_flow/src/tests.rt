@@ -2,7 +2,7 @@
 ghost use Rattle.std.specs.Prelude.{◌≡◌, ◌<◌, IsTrue, All, IfOk, IfSome, false};
 ghost use Rattle.tomo_base.specs.Sets.{has};
 
-use crate::{Fanned, Flow, Widened, fan};
+use crate::{Fanned, Flow, Widened, fan, others};
 use std::alloc::Global;
 use std::test::Fail;
 use tomo_base::{Graph, Link, NoMemory, NodeSet};
@@ -153,5 +153,14 @@ fn a_fan_needs_three_targets(rt: HostRuntime) -> Result<(), Fail> {
     let g = Graph::new(alloc, 5, &LINKED)?;
     assert!(rt; fan_comes_to(alloc, &g, &[2, 3, 4], None)?);
     assert!(rt; fan_comes_to(alloc, &g, &[3, 4], Some(&[0, 1, 2]))?);
+    Ok(())
+}
+
+#[test]
+fn others_are_all_but_one(rt: HostRuntime) -> Result<(), Fail> {
+    let alloc = rt.alloc();
+    let set = set_of(alloc, &[3, 5, 8])?;
+    assert_eq!(rt; others(alloc, &set, 5)?.as_slice(), [3, 8].as_slice());
+    assert_eq!(rt; others(alloc, &set, 4)?.as_slice(), [3, 5, 8].as_slice());
     Ok(())
 }

@@ -1,0 +1,4 @@
+pub mod Alone
+pub mod Joining
+pub mod Growing
+pub mod Gathered

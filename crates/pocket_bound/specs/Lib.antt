@@ -1,0 +1,2 @@
+pub mod HomeLabels
+pub mod Classes

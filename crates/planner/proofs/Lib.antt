@@ -1,4 +1,4 @@
-pub mod Singles
-pub mod OwnPaths
-pub mod OwnPlan
 pub mod Merged
+pub mod Measuring
+pub mod Buildable
+pub mod Whole

@@ -96,14 +96,14 @@ merged_few n old new apart merged below =
     let d : Term = record { coef = pos 0; path = 0 } in
     let path : Term → ℕ = λ t. t.path in
     let given : (v : ℕ) → has (numbers_of new) v ≡ true → has (numbers_of old) v ≡ true = λ v h.
-        let at = place_in (numbers_of new) v h in
-        let lt : at.0 < length new = omega (arith, at.1, length-map new path) in
-        let from = merged_given old new at.0 d apart merged lt in
-        let size : from.0 < length (numbers_of old) = omega (arith, from.1, length-map old path) in
-        let same : get_or (numbers_of old) from.0 0 ≡ v = get_or-map path old from.0 d 0 from.1 ∙ (from.2 ∙ (sym (get_or-map path new at.0 d 0 lt) ∙ at.2)) in
-        subst (λ w. has (numbers_of old) w ≡ true) same (has-at (numbers_of old) from.0 0 size) in
+    let at = place_in (numbers_of new) v h in
+    let lt : at.0 < length new = omega (arith, at.1, length-map new path) in
+    let from = merged_given old new at.0 d apart merged lt in
+    let size : from.0 < length (numbers_of old) = omega (arith, from.1, length-map old path) in
+    let same : get_or (numbers_of old) from.0 0 ≡ v = get_or-map path old from.0 d 0 from.1 ∙ (from.2 ∙ (sym (get_or-map path new at.0 d 0 lt) ∙ at.2)) in
+    subst (λ w. has (numbers_of old) w ≡ true) same (has-at (numbers_of old) from.0 0 size) in
     let all : All (λ v. v < n) (numbers_of new) = All-has-below n (numbers_of new) (numbers_of old) given (λ k e l.
-        let lt : k < length old = omega (arith, l, length-map old path) in rw (get_or-map path old k d e lt) (below k d lt)) in
+    let lt : k < length old = omega (arith, l, length-map old path) in rw (get_or-map path old k d e lt) (below k d lt)) in
     omega (arith, count-has n (numbers_of new) (numbers_ascend new merged.ascending) all, count-mono n (has (numbers_of new)) (has (numbers_of old)) (λ v l. given v), count-list n (numbers_of old), length-map old path, length-map new path)
   where
     All-has-below : (n : ℕ) (xs ys : List ℕ) → ((v : ℕ) → has xs v ≡ true → has ys v ≡ true) → All (λ v. v < n) ys → All (λ v. v < n) xs

@@ -1,3 +1,2 @@
-pub mod Narrow
 pub mod Planned
-pub mod Direct
+pub mod Measures

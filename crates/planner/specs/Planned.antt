@@ -1,5 +1,5 @@
 -- What is promised of a plan: it is good, its monitors are the lowest set, its paths determine every link's delay, and its pockets show that no smaller set does.
-use Rattle.std.specs.Prelude.{ℕ, ◌*◌, ◌≤◌, Bool, List, length}
+use Rattle.std.specs.Prelude.{ℕ, ◌≡◌, ◌*◌, ◌≤◌, Bool, List, [], length}
 use Rattle.tomo_base.specs.Network.{Network}
 use Rattle.tomo_base.specs.Sets.{has, size, nothing}
 use Rattle.tomo_base.specs.Identify.{Identified, Identifies}
@@ -23,3 +23,11 @@ pub record IsPlanned (given : List (List ℕ)) (g : Network) (p : PlanParts) : T
   pub shown : Shows g (pocket_sets p.pockets) (length p.monitors)
   -- every set that identifies, even by every simple path, has at least as many nodes
   pub least : (s : ℕ → Bool) → Identifies g s → length p.monitors ≤ size g s
+
+-- what is promised of a plan for given monitors: it is good, and its paths determine every link's delay; it has no pockets
+pub record IsPlanFor (given : List (List ℕ)) (g : Network) (m : List ℕ) (p : PlanParts) : Type 0 where
+  pub good : IsGoodPlan given g p
+  pub monitors : p.monitors ≡ m
+  pub no_pockets : p.pockets ≡ []
+  pub few_paths : length p.paths ≤ 4 * length p.links
+  pub identified : Identified g p.paths

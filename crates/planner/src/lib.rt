@@ -1,10 +1,9 @@
 //! Whole plans: monitors, pockets, paths and recipes for a topology.
 #![tactic(auto)]
 
-mod direct;
-mod narrow;
+mod measures;
+mod plans;
 #[cfg(test)]
 mod tests;
 
-pub use direct::make_plan;
-pub use narrow::first_hub;
+pub use plans::{make_plan, plan_for};

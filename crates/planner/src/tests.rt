@@ -1,4 +1,6 @@
 // Plans are made where memory is ample, and are good by count.
+ghost use Rattle.std.specs.Prelude.{◌<◌, ◌^◌, length};
+
 use crate::make_plan;
 use plan_form::Plan;
 use rows::read_rows;
@@ -7,7 +9,9 @@ use std::test::Fail;
 use topology::read_topology;
 
 // The plan of the topology with these rows.
-fn plan_of(alloc: Global, text: &[u8]) -> Result<Plan, Fail> {
+fn plan_of(alloc: Global, text: &[u8]) -> Result<Plan, Fail>
+    requires { length text.now < 2 ^ 31 }
+{
     let rows = read_rows(alloc, text)?;
     let topology = read_topology(alloc, &rows, false)?;
     Ok(make_plan(alloc, &topology)?)

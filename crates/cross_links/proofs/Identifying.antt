@@ -1,7 +1,6 @@
 -- Without a bad part each link has a recipe of at most four monitor paths, so the monitors identify every link.
 use Rattle.std.proofs.Common.{ℕ, ◌+◌, ◌*◌, ◌<◌, ◌≡◌, Bool, true, false, ◌==◌, List, [], ◌∷◌, length, get_or, ℤ, All, slice_get, Some, IsTrue, refl, sym, ap, ap₂, ◌∙◌, arith, inl, inr, ext_get_or}
 use Rattle.std.proofs.lemmas.Bool.{cases_Bool}
-use Rattle.std.proofs.lemmas.Option.{slice_get-get_or}
 use Rattle.std.proofs.lemmas.List.Elements.{All-tail}
 use Rattle.tomo_base.specs.declared.graph.Link.{Link}
 use Rattle.tomo_base.specs.Network.{Network, joins, linked, IsGraph}
@@ -9,7 +8,6 @@ use Rattle.tomo_base.specs.Identify.{sum_along}
 use Rattle.tomo_base.specs.Recipes.{gain_of, loss_of, weighted}
 use Rattle.tomo_base.specs.BadParts.{NoBadPart}
 use Rattle.tomo_base.proofs.Links.{joins_comm, linked_comm}
-use Rattle.tomo_base.proofs.Entering.{joins_its_ends}
 use Rattle.tomo_base.proofs.Rows.{any_joins-from}
 use Rattle.ident_laws.specs.Laws.{NoBadPartIdentifies}
 use Rattle.ident_laws.proofs.Recipes.{recipe_sum}

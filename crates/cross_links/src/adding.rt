@@ -41,7 +41,7 @@ fn add_term(
 }
 
 /// The term of a link between two monitors.
-pub fn one_path(alloc: Global, v: u32, w: u32, pool: &mut PathPool) -> Result<Recipe, NoMemory>
+pub fn one_path(alloc: Global, pool: &mut PathPool, v: u32, w: u32) -> Result<Recipe, NoMemory>
     requires few { length pool.old + 1 < 2 ^ 31 }
     requires room { nodes_in pool.old + 2 < 2 ^ 31 }
     ensures ok { IfOk result (λ r. Names pool.old pool.new r (one_term v w)) }

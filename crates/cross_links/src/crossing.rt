@@ -17,7 +17,7 @@ use simple_path::{PathPool, Recipe};
 use std::alloc::Global;
 use tomo_base::{Graph, NoMemory, NodeSet};
 
-// A link from v, which is no monitor, to the monitor w: two ways from v that avoid w, each with the link in front, and less the path of both.
+// A link from v, which is no monitor, to the monitor w: the paths over it and on along two ways from v, less the path along both ways.
 fn to_monitor(
     alloc: Global,
     g: &Graph,
@@ -41,8 +41,8 @@ fn to_monitor(
     three_paths(alloc, pool, w, ways.path(0), ways.path(1))
 }
 
-// A link between two nodes that are no monitors: of each two ways to monitors, of which all but one pair share nothing. Two paths over
-// the link join a way of the one with a way of the other, and two paths join the ways of each.
+// A link between two nodes that are no monitors, of which each has two ways to monitors. Two paths go over the link and along one way of
+// each end, so that each way is used once; less the path along both ways of v, and the path along both ways of w.
 fn between_others(
     alloc: Global,
     g: &Graph,
@@ -67,10 +67,10 @@ fn between_others(
     let (kept, b, c) = (ways.path(i), ways.path((i + 1) % 3), ways.path((i + 2) % 3));
     let others = second_ways(alloc, g, m, v, &kept[1..], &b[1..], &c[1..])?;
     let j = path_with(&others, kept[kept.len() - 1]);
-    let (third, way) = (others.path(j), others.path(1 - j));
+    let (straight, way) = (others.path(j), others.path(1 - j));
     let (near, far) = met_first(b, c, way[way.len() - 1]);
-    let fourth = led_on(alloc, way, &near[1..])?;
-    four_paths(alloc, pool, near, far, third, &fourth)
+    let led = led_on(alloc, way, &near[1..])?;
+    four_paths(alloc, pool, near, far, straight, &led)
 }
 
 // The recipe of a link between v and w.
@@ -92,18 +92,18 @@ fn between(
     ensures err { OnErr result (Longer pool.old pool.new) }
 {
     match (m.has(v), m.has(w)) {
-        (true, true) => one_path(alloc, v, w, pool),
+        (true, true) => one_path(alloc, pool, v, w),
         (false, true) => to_monitor(alloc, g, m, v, w, pool),
         (true, false) => to_monitor(alloc, g, m, w, v, pool),
         (false, false) => between_others(alloc, g, m, v, w, pool),
     }
 }
 
-/// A recipe of at most four monitor paths for a link, which are added to the pool, none longer than the graph has nodes. The setting, and
-/// the name of the problem, are those of Ma, He, Leung, Swami and Towsley (2013). A link between two monitors is a path of its own. A link
-/// to one monitor is what two paths over it have more than the path that joins their other parts; and a link between two other nodes what
-/// two paths over it have more than two that join their parts. Time is linear in nodes and links, but for a logarithm where a set is built:
-/// two flows of at most three paths. After want of memory the pool is as before.
+/// A recipe of at most four monitor paths for a link, in the setting of Ma, He, Leung, Swami and Towsley (2013). A link between two
+/// monitors is a path of its own. A link to one monitor is what two paths over it have more than the path that joins their other parts. A
+/// link between two other nodes is what two paths over it have more than the two paths that join, at each end of it, their other parts.
+/// The paths are added to the pool, and none has more nodes than the graph. After want of memory the pool is as before.
+/// It makes at most four searches for paths. Time is linear in nodes and links, but for the logarithm of a search in an ordered set.
 pub fn recipe(
     alloc: Global,
     g: &Graph,

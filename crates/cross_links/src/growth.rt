@@ -9,7 +9,7 @@ use std::alloc::Global;
 use tomo_base::{Graph, NoMemory, NodeSet};
 use unit_flow::{Flow, Widened};
 
-/// A flow without paths from a node to targets that avoids another node.
+/// A flow without paths from a node to targets, which bans another node.
 pub fn flow_beside(
     alloc: Global,
     g: &Graph,

@@ -1,4 +1,4 @@
-// Lists of nodes: those on which a node lies, and where two meet.
+// Ways and the nodes at which they meet.
 ghost use Rattle.std.specs.Prelude.{◌≡◌, ◌<◌, ◌≤◌, ℕ, [], length, All, IfOk, IsTrue, slice_index_or};
 ghost use Rattle.std.specs.List.{list_any};
 ghost use Rattle.tomo_base.specs.Sets.{has, union};

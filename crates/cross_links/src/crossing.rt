@@ -1,13 +1,12 @@
 // The recipe of a link, by which of its ends are monitors.
-ghost use Rattle.std.specs.Prelude.{◌≡◌, ◌<◌, ◌≤◌, ◌+◌, ◌*◌, ◌^◌, ℕ, length, All, IfOk, OnErr, IsTrue, false};
+ghost use Rattle.std.specs.Prelude.{◌≡◌, ◌<◌, ◌≤◌, ◌+◌, ◌*◌, ◌^◌, length, All, IfOk, OnErr, IsTrue, false};
 ghost use Rattle.tomo_base.specs.Network.{linked, IsGraph};
 ghost use Rattle.tomo_base.specs.Sets.{has};
-ghost use Rattle.tomo_base.specs.Table.{JoinsAt};
 ghost use Rattle.tomo_base.specs.Walks.{IsConnected};
 ghost use Rattle.tomo_base.specs.Identify.{Identifies};
 ghost use Rattle.tomo_base.specs.BadParts.{NoBadPart};
 ghost use Rattle.simple_path.specs.Pools.{nodes_in};
-ghost use Rattle.cross_links.specs.CrossRecipe.{AddsRecipe};
+ghost use Rattle.cross_links.specs.CrossRecipe.{AddsRecipe, AddsRecipeBetween};
 ghost use Rattle.cross_links.specs.Steps.{Longer};
 
 use crate::adding::{four_paths, one_path, three_paths};
@@ -34,7 +33,7 @@ fn to_monitor(
     requires nodes { All (λ u. u < g.now.nodes) m.now }
     requires few { length pool.old + 3 < 2 ^ 31 }
     requires room { nodes_in pool.old + 3 * g.now.nodes < 2 ^ 31 }
-    ensures ok { IfOk result (λ r. (i : ℕ) → JoinsAt g.now.links i v w → AddsRecipe g.now (has m.now) i pool.old pool.new r) }
+    ensures ok { IfOk result (AddsRecipeBetween g.now (has m.now) v w pool.old pool.new) }
     ensures err { OnErr result (Longer pool.old pool.new) }
 {
     let ways = two_ways(alloc, g, m, v, w)?;
@@ -59,7 +58,7 @@ fn between_others(
     requires nodes { All (λ u. u < g.now.nodes) m.now }
     requires few { length pool.old + 4 < 2 ^ 31 }
     requires room { nodes_in pool.old + 4 * g.now.nodes < 2 ^ 31 }
-    ensures ok { IfOk result (λ r. (i : ℕ) → JoinsAt g.now.links i v w → AddsRecipe g.now (has m.now) i pool.old pool.new r) }
+    ensures ok { IfOk result (AddsRecipeBetween g.now (has m.now) v w pool.old pool.new) }
     ensures err { OnErr result (Longer pool.old pool.new) }
 {
     let ways = three_ways(alloc, g, m, v, w)?;
@@ -88,7 +87,7 @@ fn between(
     requires nodes { All (λ u. u < g.now.nodes) m.now }
     requires few { length pool.old + 4 < 2 ^ 31 }
     requires room { nodes_in pool.old + 4 * g.now.nodes < 2 ^ 31 }
-    ensures ok { IfOk result (λ r. (i : ℕ) → JoinsAt g.now.links i v w → AddsRecipe g.now (has m.now) i pool.old pool.new r) }
+    ensures ok { IfOk result (AddsRecipeBetween g.now (has m.now) v w pool.old pool.new) }
     ensures err { OnErr result (Longer pool.old pool.new) }
 {
     match (m.has(v), m.has(w)) {

@@ -4,7 +4,7 @@ ghost use Rattle.tomo_base.specs.Network.{linked, IsGraph};
 ghost use Rattle.tomo_base.specs.Sets.{has};
 ghost use Rattle.tomo_base.specs.BadParts.{NoBadPart};
 ghost use Rattle.unit_flow.specs.Flows.{IsFlow, first_of, second_of, last_of};
-ghost use Rattle.cross_links.specs.Arms.{freely, beside, onto, KeepsWay};
+ghost use Rattle.cross_links.specs.Ways.{freely, beside, onto, KeepsWay};
 
 use crate::growth::{flow_beside, grow};
 use crate::meeting::ends_on;

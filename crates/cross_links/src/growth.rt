@@ -2,7 +2,7 @@
 ghost use Rattle.std.specs.Prelude.{◌≡◌, ◌<◌, All, IfOk, OnOk, false};
 ghost use Rattle.tomo_base.specs.Sets.{has};
 ghost use Rattle.unit_flow.specs.Flows.{task_of};
-ghost use Rattle.cross_links.specs.Arms.{beside};
+ghost use Rattle.cross_links.specs.Ways.{beside};
 ghost use Rattle.cross_links.specs.Steps.{Begins, CanGrow, HasGrown};
 
 use std::alloc::Global;

@@ -7,7 +7,7 @@ use Rattle.simple_path.specs.Pools.{nodes_in}
 use Rattle.unit_flow.specs.Flows.{later_of}
 use Rattle.cross_links.specs.CrossRecipe.{IsCrossRecipe}
 use Rattle.cross_links.specs.Joining.{four_terms, paths_of}
-use Rattle.cross_links.specs.Arms.{freely}
+use Rattle.cross_links.specs.Ways.{freely}
 use Rattle.cross_links.proofs.Recipes.{IsPlain, FirstFlow, SecondFlow, some_over, keeps, keeps_read, second_read, ends_as, some_end, end_node, MakesRecipe, makes_read, turns}
 use Rattle.cross_links.proofs.Ways.{whole_at}
 use Rattle.cross_links.proofs.Naming.{names_recipe}

@@ -2,14 +2,35 @@
 use Rattle.std.proofs.Common.{ℕ, ◌≡◌, ◌≢◌, ◌<◌, Bool, true, false, ◌||◌, List, [], ◌∷◌, ◌++◌, length, get_or, refl, sym, ap, subst, ◌∙◌, inl, inr, arith}
 use Rattle.std.proofs.lemmas.Bool.{both_ways, false_from_ne_true, or_cases, or_left, or_right, or_from}
 use Rattle.tomo_base.specs.Network.{Network, IsGraph}
-use Rattle.tomo_base.specs.Sets.{has, union, Apart}
+use Rattle.tomo_base.specs.Sets.{has, Apart}
 use Rattle.tomo_base.specs.Walks.{StepsFrom, NoneTwice, end_of}
 use Rattle.tomo_base.proofs.Walks.{StepsFrom-append, end_of-append}
 use Rattle.unit_flow.specs.Flows.{Task, IsTask, IsFlow, later_of, first_of, second_of}
 use Rattle.cross_links.specs.Steps.{IsLedOn, IsChoice}
 use Rattle.cross_links.proofs.Members.{off_rest, has_none, has_first, has_later, has_cases, has_not, has_end, append_cases, append_right, once_right, once_append, not_first}
-use Rattle.cross_links.specs.Arms.{freely, onto, IsArm, TwoArms, FourArms, IsWay, ThreeWays}
+use Rattle.cross_links.specs.Ways.{freely, onto, IsWay, ThreeWays, with_lists}
+use Rattle.cross_links.proofs.Turned.{IsArm}
 use Rattle.cross_links.proofs.Ways.{leads_steps, leads_end, leads_last, leads_changed, way_avoids, arm_of, way_at, ways_apart}
+
+-- two arms of v that share no other node and avoid w
+pub record TwoArms (g : Network) (m : ℕ → Bool) (v w : ℕ) (a b : List ℕ) : Type 0 where
+  pub arm_a : IsArm g m v a
+  pub arm_b : IsArm g m v b
+  pub a_b : Apart (has a) (has b)
+  pub off_a : has (v ∷ a) w ≡ false
+  pub off_b : has (v ∷ b) w ≡ false
+
+-- the arms a and b of v, and c and d of w; the two of one node share no other node, and of the others only d may meet a
+pub record FourArms (g : Network) (m : ℕ → Bool) (v w : ℕ) (a b c d : List ℕ) : Type 0 where
+  pub arm_a : IsArm g m v a
+  pub arm_b : IsArm g m v b
+  pub arm_c : IsArm g m w c
+  pub arm_d : IsArm g m w d
+  pub a_b : Apart (has a) (has b)
+  pub c_d : Apart (has c) (has d)
+  pub c_a : Apart (has (w ∷ c)) (has (v ∷ a))
+  pub c_b : Apart (has (w ∷ c)) (has (v ∷ b))
+  pub d_b : Apart (has (w ∷ d)) (has (v ∷ b))
 
 -- a way without a node is one whose nodes do not have it
 avoids : (a : List ℕ) (w : ℕ) → ((z : ℕ) → has a z ≡ true → w ≡ z → ⊥) → has a w ≡ false
@@ -53,7 +74,7 @@ steps_after : (g : Network) (x : ℕ) (front : List ℕ) (y : ℕ) (rest : List 
 steps_after g x [] y rest steps = steps.1
 steps_after g x (z ∷ front) y rest steps = steps_after g z front y rest steps.1
 
--- The first flow has given three ways from v. The second leads from w, without v, to the monitors and to the ways b and c
+-- the first flow has given three ways from v; the second leads from w, without v, to the monitors and to the ways b and c
 module _ (g : Network) (m : ℕ → Bool) (v w : ℕ) (a b c : List ℕ) (v_w : v ≢ w) (ways : ThreeWays (freely g m v) w a b c) where
   -- w is on neither of the two ways
   w_off : (has b w ≡ false) × (has c w ≡ false)
@@ -63,7 +84,7 @@ module _ (g : Network) (m : ℕ → Bool) (v w : ℕ) (a b c : List ℕ) (v_w : 
   )
 
   -- it is no target
-  w_no_target : m w ≡ false → union (union m (has b)) (has c) w ≡ false
+  w_no_target : m w ≡ false → with_lists m b c w ≡ false
   w_no_target plain = or_from (m w || has b w) (has c w) (or_from (m w) (has b w) plain w_off.0) w_off.1
 
   -- so the second task is one
@@ -84,23 +105,25 @@ module _ (g : Network) (m : ℕ → Bool) (v w : ℕ) (a b c : List ℕ) (v_w : 
       same x y z e f = grind (arith, e, f)
 
   -- what lies on b is a target
-  target_b : (z : ℕ) → has b z ≡ true → union (union m (has b)) (has c) z ≡ true
+  target_b : (z : ℕ) → has b z ≡ true → with_lists m b c z ≡ true
   target_b z h = or_left (m z || has b z) (has c z) (or_right (m z) (has b z) h)
 
   -- so is what lies on c
-  target_c : (z : ℕ) → has c z ≡ true → union (union m (has b)) (has c) z ≡ true
+  target_c : (z : ℕ) → has c z ≡ true → with_lists m b c z ≡ true
   target_c z h = or_right (m z || has b z) (has c z) h
 
+  -- b is an arm of v
   arm_b : IsArm g m v b
   arm_b = arm_of (freely g m v) m b (λ z h. h) ways.way_b
 
+  -- so is c
   arm_c : IsArm g m v c
   arm_c = arm_of (freely g m v) m c (λ z h. h) ways.way_c
 
   -- the ways of the second flow: p, which ends where the kept way ends, and q
   module _ (p q : List ℕ) (way_p : IsWay (onto g m b c w v) p) (way_q : IsWay (onto g m b c w v) q) (end_p : end_of w p ≡ end_of w a) (p_q : Apart (has p) (has q)) where
     -- a node of p that is a target is the end of a
-    on_p : (z : ℕ) → has (w ∷ p) z ≡ true → union (union m (has b)) (has c) z ≡ true → has (w ∷ a) z ≡ true
+    on_p : (z : ℕ) → has (w ∷ p) z ≡ true → with_lists m b c z ≡ true → has (w ∷ a) z ≡ true
     on_p z h is =
         let last : z ≡ end_of w a = leads_last (onto g m b c w v) w p z way_p.leads h is ∙ end_p in
         ap (has (w ∷ a)) last ∙ has_end w a
@@ -122,7 +145,7 @@ module _ (g : Network) (m : ℕ → Bool) (v w : ℕ) (a b c : List ℕ) (v_w : 
     arm_p = record { steps = leads_steps (onto g m b c w v) w p way_p.leads; once = way_p.once; ends = ap m end_p ∙ leads_end (freely g m v) v (w ∷ a) ways.way_a.leads }
 
     -- a node of q that is a target is its end
-    on_q : (z : ℕ) → has (w ∷ q) z ≡ true → union (union m (has b)) (has c) z ≡ true → z ≡ end_of w q
+    on_q : (z : ℕ) → has (w ∷ q) z ≡ true → with_lists m b c z ≡ true → z ≡ end_of w q
     on_q z h is = leads_last (onto g m b c w v) w q z way_q.leads h is
 
     -- q ends at a further monitor
@@ -143,7 +166,7 @@ module _ (g : Network) (m : ℕ → Bool) (v w : ℕ) (a b c : List ℕ) (v_w : 
       d_b = off q c way_q (λ z h k. both_ways (has c (end_of w q)) off_c (ap (has c) (sym (on_q z h (target_c z k))) ∙ k));
     }
       where
-        monitor : union (union m (has b)) (has c) (end_of w q) ≡ true → m (end_of w q) ≡ true
+        monitor : with_lists m b c (end_of w q) ≡ true → m (end_of w q) ≡ true
         monitor h = elim (or_cases (m (end_of w q) || has b (end_of w q)) (has c (end_of w q)) h) [
           | inl e ↦ elim (or_cases (m (end_of w q)) (has b (end_of w q)) e) [ inl is ↦ is | inr k ↦ absurd (both_ways (has b (end_of w q)) off_b k) ]
           | inr e ↦ absurd (both_ways (has c (end_of w q)) off_c e)
@@ -151,7 +174,7 @@ module _ (g : Network) (m : ℕ → Bool) (v w : ℕ) (a b c : List ℕ) (v_w : 
 
     -- q ends on one of the two, which leads it on
     ends_on : (near far : List ℕ) → IsArm g m v near → IsArm g m v far → Apart (has near) (has far) →
-        ((z : ℕ) → has near z ≡ true → union (union m (has b)) (has c) z ≡ true) → ((z : ℕ) → has far z ≡ true → union (union m (has b)) (has c) z ≡ true) →
+        ((z : ℕ) → has near z ≡ true → with_lists m b c z ≡ true) → ((z : ℕ) → has far z ≡ true → with_lists m b c z ≡ true) →
         Apart (has (w ∷ p)) (has near) → Apart (has (w ∷ p)) (has far) → (front rest : List ℕ) → near ≡ front ++ end_of w q ∷ rest → FourArms g m v w near far p (q ++ rest)
     ends_on near far arm arm' near_far target_near target_far p_near p_far front rest is =
         let y = end_of w q in

@@ -11,9 +11,9 @@ use Rattle.tomo_base.proofs.Ascending.{place_in}
 use Rattle.unit_flow.specs.Flows.{IsFlow, first_of, later_of, second_of, last_of}
 use Rattle.cross_links.proofs.Members.{has_none, has_first, has_not}
 use Rattle.cross_links.proofs.Ways.{leads_changed, leads_avoid, one_way, whole_at, end_at, way_at, ways_apart}
-use Rattle.cross_links.specs.Arms.{freely, beside, onto, TwoArms, FourArms, IsWay, ThreeWays}
+use Rattle.cross_links.specs.Ways.{freely, beside, onto, IsWay, ThreeWays}
 use Rattle.cross_links.specs.Steps.{IsLedOn, IsChoice}
-use Rattle.cross_links.proofs.Arms.{two_arms, three_ways, onto_ok, kept_way, four_arms}
+use Rattle.cross_links.proofs.Arms.{two_arms, three_ways, onto_ok, kept_way, four_arms, TwoArms, FourArms}
 use Rattle.cross_links.proofs.Found.{around}
 use Rattle.cross_links.proofs.Growing.{grows}
 use Rattle.cross_links.proofs.Tasks.{size_single, size_none, no_flow, differ, beside_ok, freely_ok, covered, onto_covered}
@@ -82,18 +82,18 @@ module _ (g : Network) (m : ℕ → Bool) (graph : IsGraph g) (none : NoBadPart 
       let t = beside g m v w in
       let ok = beside_ok g m graph v w l plain in
       let one = size_single g w (linked_below g.nodes g.links v w graph l).1 in
-      let first = grows t m ok none (covered g m graph (has (w ∷ []))) [] (no_flow t) (omega (arith, one)) in
-      let second = grows t m ok none (covered g m graph (has (w ∷ []))) first.0 first.1.flow (omega (arith, one, first.1.one_more)) in (
+      let first = grows t m ok none (covered g m (has (w ∷ []))) [] (no_flow t) (omega (arith, one)) in
+      let second = grows t m ok none (covered g m (has (w ∷ []))) first.0 first.1.flow (omega (arith, one, first.1.one_more)) in (
         later_of (get_or second.0 0 []),
         later_of (get_or second.0 1 []),
-        two_arms t m w second.0 [] second.1.flow (omega (arith, first.1.one_more, second.1.one_more)) (λ z h. h) (has_first w []) (λ e. differ g m graph v w l (sym e)),
+        two_arms t m w second.0 [] second.1.flow (omega (arith, first.1.one_more, second.1.one_more)) (λ z h. h) (has_first w []) (λ e. differ g graph v w l (sym e)),
       )
 
   -- two arms of each end, from the three ways of the first flow
   from_ways : m w ≡ false → (a b c : List ℕ) → ThreeWays (freely g m v) w a b c → (b' : List ℕ) × (c' : List ℕ) × (p : List ℕ) × (q : List ℕ) × FourArms g m v w b' c' p q
   from_ways plain_w a b c ways =
       let t = onto g m b c w v in
-      let v_w = differ g m graph v w l in
+      let v_w = differ g graph v w l in
       let ok = onto_ok g m v w a b c v_w ways graph (linked_below g.nodes g.links v w graph l).1 plain_w in
       let one = size_single g v (linked_below g.nodes g.links v w graph l).0 in
       let more = grows t m ok none (onto_covered g m b c v) ((w ∷ a) ∷ []) (one_way t a (kept_way g m v w a b c v_w ways)) (omega (arith, one)) in
@@ -107,7 +107,7 @@ module _ (g : Network) (m : ℕ → Bool) (graph : IsGraph g) (none : NoBadPart 
           let way = w ∷ later_of (get_or ps j []) in
           let choice = some_choice (v ∷ b) (v ∷ c) (last_of way) in
           let led = some_led_on way (later_of choice.0) in
-          (later_of choice.0, later_of choice.1, later_of (get_or ps i []), later_of led.0, from_two_flows g m v w a b c (differ g m graph v w l) ways ps [] i j flow li lj ne is choice.0 choice.1 led.0 choice.2 led.1)
+          (later_of choice.0, later_of choice.1, later_of (get_or ps i []), later_of led.0, from_two_flows g m v w a b c (differ g graph v w l) ways ps [] i j flow li lj ne is choice.0 choice.1 led.0 choice.2 led.1)
 
   -- two arms of each end of a link between two nodes that are no monitors
   pub third_case : m w ≡ false → (a : List ℕ) × (b : List ℕ) × (c : List ℕ) × (d : List ℕ) × FourArms g m v w a b c d
@@ -116,11 +116,11 @@ module _ (g : Network) (m : ℕ → Bool) (graph : IsGraph g) (none : NoBadPart 
       let ok = freely_ok g m graph v (linked_below g.nodes g.links v w graph l).0 plain in
       let back = linked_comm g v w l in
       let one = size_single g v (linked_below g.nodes g.links v w graph l).0 in
-      let path = grows (beside g m w v) m (beside_ok g m graph w v back plain_w) none (covered g m graph (has (v ∷ []))) [] (no_flow (beside g m w v)) (omega (arith, one)) in
-      let kept = first_way g m v w path.0 l plain (differ g m graph v w l) path.1.flow (omega (arith, path.1.one_more)) in
+      let path = grows (beside g m w v) m (beside_ok g m graph w v back plain_w) none (covered g m (has (v ∷ []))) [] (no_flow (beside g m w v)) (omega (arith, one)) in
+      let kept = first_way g m v w path.0 l plain (differ g graph v w l) path.1.flow (omega (arith, path.1.one_more)) in
       let free = size_none g in
-      let two = grows t m ok none (covered g m graph (has [])) ((v ∷ get_or path.0 0 []) ∷ []) kept.0 (omega (arith, free)) in
-      let three = grows t m ok none (covered g m graph (has [])) two.0 two.1.flow (omega (arith, free, two.1.one_more)) in
+      let two = grows t m ok none (covered g m (has [])) ((v ∷ get_or path.0 0 []) ∷ []) kept.0 (omega (arith, free)) in
+      let three = grows t m ok none (covered g m (has [])) two.0 two.1.flow (omega (arith, free, two.1.one_more)) in
       let at = place_of second_of three.0 w (three.1.starts w (two.1.starts w (subst (λ x. has (x ∷ []) w ≡ true) (sym kept.1) (has_first w [])))) in
       let rest = others at.0 (omega (arith, at.1, two.1.one_more, three.1.one_more)) in
       from_ways plain_w (later_of (later_of (get_or three.0 at.0 []))) (later_of (get_or three.0 rest.0 [])) (later_of (get_or three.0 rest.1 []))

@@ -37,17 +37,12 @@ around (x ∷ xs) (suc i) d l =
 abbrev pub FindsFirst : List ℕ → ℕ → Option ℕ → Type 0
 FindsFirst xs v r = MatchOption r (AllWithin (λ y. (y == v) ≡ false) xs 0 (length xs)) (λ i. (i < length xs) × HoldsAt (λ y. (y == v) ≡ true) xs i × AllWithin (λ y. (y == v) ≡ false) xs 0 i)
 
--- the node stands at the place, between what is before and what is after
-pub record IsFound (xs : List ℕ) (v i : ℕ) : Type 0 where
-  pub inside : i < length xs
-  pub around_it : xs ≡ take i xs ++ v ∷ drop (i + 1) xs
-
 -- where the search found a place, the node stands there
-pub found_at : (xs : List ℕ) (v i : ℕ) (r : Option ℕ) → r ≡ Some i → FindsFirst xs v r → IsFound xs v i
+pub found_at : (xs : List ℕ) (v i : ℕ) (r : Option ℕ) → r ≡ Some i → FindsFirst xs v r → xs ≡ take i xs ++ v ∷ drop (i + 1) xs
 found_at xs v i None is found = absurd (none-some i is)
 found_at xs v i (Some k) is found =
     let same : k ≡ i = cc is in
-    rw (sym same) (record { inside = found.0; around_it = around xs k 0 found.0 ∙ ap (λ y. take k xs ++ y ∷ drop (k + 1) xs) (eqb-true (get_or xs k 0) v (found.1 0)) })
+    rw (sym same) (around xs k 0 found.0 ∙ ap (λ y. take k xs ++ y ∷ drop (k + 1) xs) (eqb-true (get_or xs k 0) v (found.1 0)))
 
 -- where it found none, the node does not stand in the list
 pub not_found : (xs : List ℕ) (v : ℕ) (r : Option ℕ) → r ≡ None → FindsFirst xs v r → has xs v ≡ false

@@ -1,7 +1,6 @@
 -- Without a bad part each link has a recipe of at most four monitor paths, so the monitors identify every link.
 use Rattle.std.proofs.Common.{ℕ, ◌+◌, ◌*◌, ◌<◌, ◌≡◌, Bool, true, false, ◌==◌, List, [], ◌∷◌, length, get_or, ℤ, All, slice_get, Some, IsTrue, refl, sym, ap, ap₂, ◌∙◌, arith, inl, inr, ext_get_or}
 use Rattle.std.proofs.lemmas.Bool.{cases_Bool}
-use Rattle.std.proofs.lemmas.Option.{slice_get-get_or}
 use Rattle.std.proofs.lemmas.List.Elements.{All-tail}
 use Rattle.tomo_base.specs.declared.graph.Link.{Link}
 use Rattle.tomo_base.specs.Network.{Network, joins, linked, IsGraph}
@@ -9,7 +8,6 @@ use Rattle.tomo_base.specs.Identify.{sum_along}
 use Rattle.tomo_base.specs.Recipes.{gain_of, loss_of, weighted}
 use Rattle.tomo_base.specs.BadParts.{NoBadPart}
 use Rattle.tomo_base.proofs.Links.{joins_comm, linked_comm}
-use Rattle.tomo_base.proofs.Entering.{joins_its_ends}
 use Rattle.tomo_base.proofs.Rows.{any_joins-from}
 use Rattle.ident_laws.specs.Laws.{NoBadPartIdentifies}
 use Rattle.ident_laws.proofs.Recipes.{recipe_sum}
@@ -25,19 +23,19 @@ module _ (g : Network) (m : ℕ → Bool) (graph : IsGraph g) (none : NoBadPart 
   to_monitor : (i v w : ℕ) → IsTrue (linked g v w) → ((k : ℕ) (x : Link) → slice_get g.links k ≡ Some x → joins x v w ≡ (k == i)) → m v ≡ false → m w ≡ true → (terms : List (ℤ × List ℕ)) × IsCrossRecipe g m i terms
   to_monitor i v w l only plain is =
       let arms = second_case g m graph none v w l plain in
-      (three_terms w (v ∷ arms.0) (v ∷ arms.1), by_three g m v w l (differ g m graph v w l) i only arms.0 arms.1 plain is arms.2)
+      (three_terms w (v ∷ arms.0) (v ∷ arms.1), by_three g m v w l (differ g graph v w l) i only arms.0 arms.1 plain is arms.2)
 
   -- a link, by which of its ends are monitors
   recipe_for : (i v w : ℕ) → IsTrue (linked g v w) → ((k : ℕ) (x : Link) → slice_get g.links k ≡ Some x → joins x v w ≡ (k == i)) → (terms : List (ℤ × List ℕ)) × IsCrossRecipe g m i terms
   recipe_for i v w l only = elim (cases_Bool (m v)) [
     | inl mv ↦ elim (cases_Bool (m w)) [
-      | inl mw ↦ (one_term v w, by_one g m v w l (differ g m graph v w l) i only mv mw)
+      | inl mw ↦ (one_term v w, by_one g m v w l (differ g graph v w l) i only mv mw)
       | inr pw ↦ to_monitor i w v (linked_comm g v w l) (λ k x e. joins_comm x w v ∙ only k x e) pw mv
     ]
     | inr pv ↦ elim (cases_Bool (m w)) [
       | inl mw ↦ to_monitor i v w l only pv mw
       | inr pw ↦ let arms = third_case g m graph none v w l pv pw in
-          (four_terms (v ∷ arms.0) (v ∷ arms.1) (w ∷ arms.2) (w ∷ arms.3), by_four g m v w l (differ g m graph v w l) i only arms.0 arms.1 arms.2 arms.3 pv pw arms.4)
+          (four_terms (v ∷ arms.0) (v ∷ arms.1) (w ∷ arms.2) (w ∷ arms.3), by_four g m v w l (differ g graph v w l) i only arms.0 arms.1 arms.2 arms.3 pv pw arms.4)
     ]
   ]
 

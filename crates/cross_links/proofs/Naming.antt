@@ -1,7 +1,7 @@
 -- Terms that name paths added to a pool are a recipe where the wanted terms are, and how much the pool holds then.
 use Rattle.std.proofs.Common.{take, drop, ◌-◌, ℕ, zero, suc, ◌+◌, ◌*◌, ◌<◌, ◌≤◌, ◌≡◌, Bool, true, List, [], ◌∷◌, ◌++◌, length, get_or, ℤ, All, refl, sym, ap, ap₂, subst, ◌∙◌, inl, inr, arith, length-append}
 use Rattle.std.proofs.lemmas.Bool.{both_ways}
-use Rattle.std.proofs.lemmas.List.{append-nil, append_assoc, map-append, length-map, get_or-append-add}
+use Rattle.std.proofs.lemmas.List.{append_assoc, length-map, get_or-append-add}
 use Rattle.std.proofs.lemmas.List.Elements.{All-map, All-tail}
 use Rattle.std.proofs.lemmas.Map.Steps.{length-le_from_distinct_below}
 use Rattle.tomo_base.specs.Network.{Network, IsGraph}
@@ -21,31 +21,7 @@ use Rattle.cross_links.proofs.Found.{rest_from}
 use Rattle.cross_links.proofs.Turned.{length-turned_onto}
 use Rattle.cross_links.proofs.Members.{has_none, has_cases}
 
--- ---- one term after the other
--- at first none
-pub names_none : (old : List (List ℕ)) → Names old old [] []
-names_none old = record { grown = sym (append-nil old); named = refl }
-
--- the numbers go on
-numbered-push : (k : ℕ) (ts : List (ℤ × List ℕ)) (c : ℤ) (p : List ℕ) → numbered k (ts ++ (c, p) ∷ []) ≡ numbered k ts ++ (record { coef = c; path = k + length ts }) ∷ []
-numbered-push k [] c p = ap (λ n. (record { coef = c; path = n }) ∷ []) (let e : k ≡ k + 0 = omega arith in e)
-numbered-push k (t ∷ ts) c p =
-    let e : (k + 1) + length ts ≡ k + length (t ∷ ts) = omega arith in
-    ap (λ l. (record { coef = t.0; path = k }) ∷ l) (numbered-push (k + 1) ts c p ∙ ap (λ n. numbered (k + 1) ts ++ (record { coef = c; path = n }) ∷ []) e)
-
--- how many paths there are then
-pub names_many : (old new : List (List ℕ)) (terms : List Term) (wanted : List (ℤ × List ℕ)) → Names old new terms wanted → length new ≡ length old + length wanted
-names_many old new terms wanted n = ap length n.grown ∙ (length-append old (paths_of wanted) ∙ ap (λ k. length old + k) (length-map wanted (λ (t : ℤ × List ℕ). t.1)))
-
--- one term more
-pub names_more : (old new : List (List ℕ)) (terms : List Term) (wanted : List (ℤ × List ℕ)) (new' : List (List ℕ)) (terms' : List Term) (c : ℤ) (p : List ℕ) → Names old new terms wanted →
-    new' ≡ new ++ p ∷ [] → terms' ≡ terms ++ (record { coef = c; path = length new }) ∷ [] → Names old new' terms' (wanted ++ (c, p) ∷ [])
-names_more old new terms wanted new' terms' c p n grown named = record {
-  grown = grown ∙ (ap (λ l. l ++ p ∷ []) n.grown ∙ (append_assoc old (paths_of wanted) (p ∷ []) ∙ ap (λ l. old ++ l) (sym (map-append (λ (t : ℤ × List ℕ). t.1) wanted ((c, p) ∷ [])))));
-  named = named ∙ (ap₂ (λ l k. l ++ (record { coef = c; path = k }) ∷ []) n.named (names_many old new terms wanted n) ∙ sym (numbered-push (length old) wanted c p));
-}
-
--- ---- what they are
+-- ---- what the terms are
 -- as many terms as wanted
 length-numbered : (k : ℕ) (ts : List (ℤ × List ℕ)) → length (numbered k ts) ≡ length ts
 length-numbered k [] = refl
@@ -102,10 +78,6 @@ names_recipe g m i old new terms wanted graph n r =
 pub nodes_short : (n : ℕ) (ts : List (ℤ × List ℕ)) → All (λ t. length t.1 ≤ n) ts → nodes_in (paths_of ts) ≤ length ts * n
 nodes_short n [] short = omega arith
 nodes_short n (t ∷ ts) short = omega (arith, nodes_short n ts (All-tail (λ (t : ℤ × List ℕ). length t.1 ≤ n) t ts short), short 0 t (omega arith))
-
--- the pool has them more
-pub names_room : (n : ℕ) (old new : List (List ℕ)) (terms : List Term) (wanted : List (ℤ × List ℕ)) → Names old new terms wanted → All (λ t. length t.1 ≤ n) wanted → nodes_in new ≤ nodes_in old + length wanted * n
-names_room n old new terms wanted names short = omega (arith, ap nodes_in names.grown, nodes_in-append old (paths_of wanted), nodes_short n wanted short)
 
 -- one path more
 pub nodes_more : (old new : List (List ℕ)) (a b : List ℕ) → new ≡ old ++ turned_onto a b ∷ [] → nodes_in new ≡ nodes_in old + (length a + length b)

@@ -13,11 +13,11 @@ use Rattle.unit_flow.specs.Flows.{Task, IsFlow, later_of, first_of, second_of, l
 use Rattle.unit_flow.proofs.Loads.{last_at}
 use Rattle.cross_links.specs.CrossRecipe.{IsCrossRecipe}
 use Rattle.cross_links.specs.Joining.{three_terms, four_terms, paths_of}
-use Rattle.cross_links.specs.Arms.{freely, beside, onto, TwoArms, FourArms, ThreeWays, KeepsWay}
+use Rattle.cross_links.specs.Ways.{freely, beside, onto, ThreeWays, KeepsWay}
 use Rattle.cross_links.specs.Steps.{IsChoice, IsLedOn}
 use Rattle.cross_links.proofs.Members.{has_first, has_later, has_cases, has_end}
 use Rattle.cross_links.proofs.Ways.{leads_end, whole_at, end_at, way_at, ways_apart}
-use Rattle.cross_links.proofs.Arms.{two_arms, three_ways, goes_on}
+use Rattle.cross_links.proofs.Arms.{two_arms, three_ways, goes_on, TwoArms, FourArms}
 use Rattle.cross_links.proofs.Tasks.{differ}
 use Rattle.cross_links.proofs.Cases.{place_of, from_two_flows}
 use Rattle.cross_links.proofs.Places.{only_joins}
@@ -38,7 +38,7 @@ module _ (g : Network) (m : ℕ → Bool) (graph : IsGraph g) (v w : ℕ) (l : I
     (ps : List (List ℕ)) (flow : IsFlow (beside g m v w) ps) (two : length ps ≡ 2) where
   -- the two paths are arms of v
   arms : TwoArms g m v w (later_of (get_or ps 0 [])) (later_of (get_or ps 1 []))
-  arms = two_arms (beside g m v w) m w ps [] flow two (λ z h. h) (has_first w []) (λ e. differ g m graph v w l (sym e))
+  arms = two_arms (beside g m v w) m w ps [] flow two (λ z h. h) (has_first w []) (λ e. differ g graph v w l (sym e))
 
   -- the terms of the paths are those of the arms
   terms_three : three_terms w (v ∷ later_of (get_or ps 0 [])) (v ∷ later_of (get_or ps 1 [])) ≡ three_terms w (get_or ps 0 []) (get_or ps 1 [])
@@ -47,9 +47,9 @@ module _ (g : Network) (m : ℕ → Bool) (graph : IsGraph g) (v w : ℕ) (l : I
   -- they are a recipe
   pub makes_three : MakesRecipe g m v w 3 (three_terms w (get_or ps 0 []) (get_or ps 1 []))
   makes_three = record {
-    recipe = λ i at. subst (IsCrossRecipe g m i) terms_three (by_three g m v w l (differ g m graph v w l) i (only_joins g i v w graph at) (later_of (get_or ps 0 [])) (later_of (get_or ps 1 [])) plain monitor arms);
+    recipe = λ i at. subst (IsCrossRecipe g m i) terms_three (by_three g m v w l (differ g graph v w l) i (only_joins g i v w graph at) (later_of (get_or ps 0 [])) (later_of (get_or ps 1 [])) plain monitor arms);
     room = room_of g m (three_terms w (get_or ps 0 []) (get_or ps 1 [])) graph
-        (subst (All (λ t. IsMonitorPath g m t.1)) terms_three (paths_three g m v w l (differ g m graph v w l) (later_of (get_or ps 0 [])) (later_of (get_or ps 1 [])) plain monitor arms));
+        (subst (All (λ t. IsMonitorPath g m t.1)) terms_three (paths_three g m v w l (differ g graph v w l) (later_of (get_or ps 0 [])) (later_of (get_or ps 1 [])) plain monitor arms));
   }
 
 -- ---- a link between two nodes that are no monitors
@@ -107,15 +107,15 @@ module _ (g : Network) (m : ℕ → Bool) (v w : ℕ) (link : IsPlain g m v w) (
 
   module _ (i : ℕ) (li : i < length ps) (on_i : has (get_or ps i []) w ≡ true) where
     -- the path on which w lies goes over it at once
-    pub over_at : second_of (get_or ps i []) ≡ w
-    over_at = let k = kept_at in ap (λ z. second_of (get_or ps z [])) (same_place (freely g m v) ps i k.0 w first.flow li k.1 on_i k.2 (differ g m link.graph v w link.linked)) ∙ k.3
+    over_at : second_of (get_or ps i []) ≡ w
+    over_at = let k = kept_at in ap (λ z. second_of (get_or ps z [])) (same_place (freely g m v) ps i k.0 w first.flow li k.1 on_i k.2 (differ g link.graph v w link.linked)) ∙ k.3
 
     -- the path without v
-    pub kept_is : later_of (get_or ps i []) ≡ w ∷ later_of (later_of (get_or ps i []))
+    kept_is : later_of (get_or ps i []) ≡ w ∷ later_of (later_of (get_or ps i []))
     kept_is = goes_on (freely g m v) (later_of (get_or ps i [])) link.plain_v (way_at (freely g m v) ps first.flow i [] li) ∙ ap (λ x. x ∷ later_of (later_of (get_or ps i []))) over_at
 
     -- it and the other two
-    pub ways_at : ThreeWays (freely g m v) w (later_of (later_of (get_or ps i []))) (later_of (get_or ps ((i + 1) % 3) [])) (later_of (get_or ps ((i + 2) % 3) []))
+    ways_at : ThreeWays (freely g m v) w (later_of (later_of (get_or ps i []))) (later_of (get_or ps ((i + 1) % 3) [])) (later_of (get_or ps ((i + 2) % 3) []))
     ways_at =
         let t = turns i (omega (arith, li, first.three)) in
         three_ways (freely g m v) w ps [] i ((i + 1) % 3) ((i + 2) % 3) first.flow link.plain_v li (omega (arith, t.3, first.three)) (omega (arith, t.4, first.three)) t.0 t.1 t.2 over_at
@@ -167,7 +167,7 @@ module _ (g : Network) (m : ℕ → Bool) (v w : ℕ) (link : IsPlain g m v w) (
 
     -- the four arms
     four : FourArms g m v w (later_of near) (later_of far) (later_of (get_or qs j [])) (later_of fourth)
-    four = from_two_flows g m v w a b c (differ g m link.graph v w link.linked) k.ways qs [] j (1 - j) k.flow lj other.0 other.1 is_end near far fourth
+    four = from_two_flows g m v w a b c (differ g link.graph v w link.linked) k.ways qs [] j (1 - j) k.flow lj other.0 other.1 is_end near far fourth
         (subst (λ x. IsChoice (v ∷ b) (v ∷ c) x near far) (ap last_of whole_other) choice) (subst (λ q. IsLedOn q (later_of near) fourth) whole_other led)
 
     -- the terms of the paths are those of the arms
@@ -189,12 +189,12 @@ module _ (g : Network) (m : ℕ → Bool) (v w : ℕ) (link : IsPlain g m v w) (
         fourth_is (inr h) = let e : fourth ≡ (w ∷ later_of (get_or qs (1 - j) [])) ++ h.1 = h.3 ∙ ap (λ x. x ++ h.1) whole_other in ap (λ x. w ∷ later_of x) e ∙ sym e
 
     -- they are a recipe
-    pub makes_four : MakesRecipe g m v w 4 (four_terms near far (get_or qs j []) fourth)
+    makes_four : MakesRecipe g m v w 4 (four_terms near far (get_or qs j []) fourth)
     makes_four = record {
       recipe = λ i at. subst (IsCrossRecipe g m i) terms_four
-          (by_four g m v w link.linked (differ g m link.graph v w link.linked) i (only_joins g i v w link.graph at) (later_of near) (later_of far) (later_of (get_or qs j [])) (later_of fourth) link.plain_v link.plain_w four);
+          (by_four g m v w link.linked (differ g link.graph v w link.linked) i (only_joins g i v w link.graph at) (later_of near) (later_of far) (later_of (get_or qs j [])) (later_of fourth) link.plain_v link.plain_w four);
       room = room_of g m (four_terms near far (get_or qs j []) fourth) link.graph
-          (subst (All (λ t. IsMonitorPath g m t.1)) terms_four (paths_four g m v w link.linked (differ g m link.graph v w link.linked) (later_of near) (later_of far) (later_of (get_or qs j [])) (later_of fourth) link.plain_v link.plain_w four));
+          (subst (All (λ t. IsMonitorPath g m t.1)) terms_four (paths_four g m v w link.linked (differ g link.graph v w link.linked) (later_of near) (later_of far) (later_of (get_or qs j [])) (later_of fourth) link.plain_v link.plain_w four));
     }
 
 -- ---- as the code reads the paths
@@ -207,14 +207,14 @@ keeps_read g m v p q r p' q' r' ep eq er k =
     (subst (λ x. KeepsWay g m v (later_of p) (later_of q) x) (sym (rest_is r' ∙ ap later_of er)) k))
 
 -- the task of the second flow
-pub onto_read : (g : Network) (m : ℕ → Bool) (v w : ℕ) (p q r p' q' r' : List ℕ) → p' ≡ p → q' ≡ q → r' ≡ r → first_of (later_of p) ≡ w →
+onto_read : (g : Network) (m : ℕ → Bool) (v w : ℕ) (p q r p' q' r' : List ℕ) → p' ≡ p → q' ≡ q → r' ≡ r → first_of (later_of p) ≡ w →
     onto g m (take (length q' - 1) (drop 1 q')) (take (length r' - 1) (drop 1 r')) (first_of (take (length p' - 1) (drop 1 p'))) v ≡ onto g m (later_of q) (later_of r) w v
 onto_read g m v w p q r p' q' r' ep eq er is =
     ap₂ (λ x y. onto g m x y (first_of (take (length p' - 1) (drop 1 p'))) v) (rest_is q' ∙ ap later_of eq) (rest_is r' ∙ ap later_of er)
     ∙ ap (λ x. onto g m (later_of q) (later_of r) x v) (ap first_of (rest_is p' ∙ ap later_of ep) ∙ is)
 
 -- the end of the way that is kept
-pub end_read : (w : ℕ) (p p' : List ℕ) → p' ≡ p → later_of p ≡ w ∷ later_of (later_of p) → last_of (take (length p' - 1) (drop 1 p')) ≡ end_of w (later_of (later_of p))
+end_read : (w : ℕ) (p p' : List ℕ) → p' ≡ p → later_of p ≡ w ∷ later_of (later_of p) → last_of (take (length p' - 1) (drop 1 p')) ≡ end_of w (later_of (later_of p))
 end_read w p p' e is = ap last_of (rest_is p' ∙ (ap later_of e ∙ is))
 
 -- the second flow, after the first
@@ -234,11 +234,11 @@ pub end_node : (t : Task) (ps : List (List ℕ)) (i : ℕ) (p : List ℕ) → Is
 end_node t ps i p flow l e = last_at p 0 (let long = ap length (e ∙ whole_at t ps flow i [] l) in omega (arith, long)) ∙ ap last_of e
 
 -- a choice between two paths from v
-pub choice_read : (v x y : ℕ) (b c b' c' near far : List ℕ) → b' ≡ v ∷ b → c' ≡ v ∷ c → x ≡ y → IsChoice b' c' x near far → IsChoice (v ∷ b) (v ∷ c) y near far
+choice_read : (v x y : ℕ) (b c b' c' near far : List ℕ) → b' ≡ v ∷ b → c' ≡ v ∷ c → x ≡ y → IsChoice b' c' x near far → IsChoice (v ∷ b) (v ∷ c) y near far
 choice_read v x y b c b' c' near far eb ec ex h = subst (λ z. IsChoice (v ∷ b) (v ∷ c) z near far) ex (subst (λ z. IsChoice (v ∷ b) z x near far) ec (subst (λ z. IsChoice z c' x near far) eb h))
 
 -- a way that was led on
-pub led_read : (way way' near whole : List ℕ) → way' ≡ way → IsLedOn way' (take (length near - 1) (drop 1 near)) whole → IsLedOn way (later_of near) whole
+led_read : (way way' near whole : List ℕ) → way' ≡ way → IsLedOn way' (take (length near - 1) (drop 1 near)) whole → IsLedOn way (later_of near) whole
 led_read way way' near whole e h = subst (λ z. IsLedOn z (later_of near) whole) e (subst (λ z. IsLedOn way' z whole) (rest_is near) h)
 
 -- the terms of the four paths, as they are read: b and c are two paths from v, third is the path of the second flow that ends at the end of w a, and way is the other

@@ -7,7 +7,7 @@ use Rattle.tomo_base.specs.BadParts.{NoBadPart}
 use Rattle.tomo_base.proofs.Links.{linked_below}
 use Rattle.tomo_base.proofs.Ascending.{All-has, All-from_has}
 use Rattle.unit_flow.specs.Flows.{Task, Routing, task_of, LeadsFrom, first_of, later_of, IsFlow}
-use Rattle.cross_links.specs.Arms.{freely, beside, onto, IsWay, KeepsWay}
+use Rattle.cross_links.specs.Ways.{freely, beside, onto, IsWay, KeepsWay, with_lists}
 use Rattle.cross_links.specs.Steps.{CanGrow}
 use Rattle.cross_links.proofs.Members.{has_none, has_cases}
 use Rattle.cross_links.proofs.Ways.{one_way}
@@ -28,7 +28,7 @@ first_later [] some = absurd (omega arith)
 first_later (x ∷ xs) some = refl
 
 -- as it is read
-pub first_read : (xs : List ℕ) → 1 ≤ length xs → get_or xs 0 0 ≡ first_of xs
+first_read : (xs : List ℕ) → 1 ≤ length xs → get_or xs 0 0 ≡ first_of xs
 first_read [] some = absurd (omega arith)
 first_read (x ∷ xs) some = refl
 
@@ -43,10 +43,11 @@ module _ (g : Network) (m : ℕ → Bool) (v : ℕ) (kept b c : List ℕ) (graph
       let both = linked_below g.nodes g.links v (first_of kept) graph k.linked in
       (both.0, subst (λ z. z < g.nodes) (sym (first_read kept k.some)) both.1)
 
+  -- two different ones
   pub ends_differ : get_or kept 0 0 ≢ v
-  ends_differ e = differ g m graph v (first_of kept) k.linked (sym (sym (first_read kept k.some) ∙ e))
+  ends_differ e = differ g graph v (first_of kept) k.linked (sym (sym (first_read kept k.some) ∙ e))
 
-  module _ (targets : List ℕ) (ends : (z : ℕ) → has targets z ≡ union (union m (has b)) (has c) z) where
+  module _ (targets : List ℕ) (ends : (z : ℕ) → has targets z ≡ with_lists m b c z) where
     -- the targets are nodes
     pub targets_below : ((z : ℕ) → m z ≡ true → z < g.nodes) → All (λ z. z < g.nodes) targets
     targets_below below = All-from_has (λ z. z < g.nodes) targets (λ z h. elim (or_cases (union m (has b) z) (has c z) (sym (ends z) ∙ h)) [
@@ -56,18 +57,18 @@ module _ (g : Network) (m : ℕ → Bool) (v : ℕ) (kept b c : List ℕ) (graph
 
     -- the task of the flow
     pub second_task : beside g (has targets) (get_or kept 0 0) v ≡ onto g m b c (first_of kept) v
-    second_task = ap₂ (λ (q : ℕ → Bool) (x : ℕ). beside g q x v) (same_tests (has targets) (union (union m (has b)) (has c)) ends) (first_read kept k.some)
+    second_task = ap₂ (λ (q : ℕ → Bool) (x : ℕ). beside g q x v) (same_tests (has targets) (with_lists m b c) ends) (first_read kept k.some)
 
     -- its source is no target
     pub second_no_target : has targets (get_or kept 0 0) ≡ false
     second_no_target =
-        let ok = onto_ok g m v (first_of kept) (later_of kept) b c (differ g m graph v (first_of kept) k.linked) k.ways graph (linked_below g.nodes g.links v (first_of kept) graph k.linked).1 k.plain in
+        let ok = onto_ok g m v (first_of kept) (later_of kept) b c (differ g graph v (first_of kept) k.linked) k.ways graph (linked_below g.nodes g.links v (first_of kept) graph k.linked).1 k.plain in
         ap (has targets) (first_read kept k.some) ∙ (ends (first_of kept) ∙ ok.no_target)
 
   -- the path that is kept is a flow of it
   pub second_path : IsFlow (onto g m b c (first_of kept) v) (kept ∷ [])
   second_path =
-      let v_w = differ g m graph v (first_of kept) k.linked in
+      let v_w = differ g graph v (first_of kept) k.linked in
       subst (λ p. IsFlow (onto g m b c (first_of kept) v) (p ∷ [])) (sym (first_later kept k.some))
       (one_way (onto g m b c (first_of kept) v) (later_of kept) (kept_way g m v (first_of kept) (later_of kept) b c v_w k.ways))
 
@@ -75,5 +76,5 @@ module _ (g : Network) (m : ℕ → Bool) (v : ℕ) (kept b c : List ℕ) (graph
   pub second_grows : NoBadPart g m → (f : Routing) → Grown (onto g m b c (first_of kept) v) 1 f → CanGrow (task_of f) f.paths
   second_grows none f grown =
       let both = linked_below g.nodes g.links v (first_of kept) graph k.linked in
-      let ok = onto_ok g m v (first_of kept) (later_of kept) b c (differ g m graph v (first_of kept) k.linked) k.ways graph both.1 k.plain in
-      beside_grows g m none (union (union m (has b)) (has c)) (first_of kept) v 1 f ok both.0 (onto_inside g m b c) (omega arith) grown
+      let ok = onto_ok g m v (first_of kept) (later_of kept) b c (differ g graph v (first_of kept) k.linked) k.ways graph both.1 k.plain in
+      beside_grows g m none (with_lists m b c) (first_of kept) v 1 f ok both.0 (onto_inside g m b c) (omega arith) grown

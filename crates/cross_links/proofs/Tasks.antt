@@ -13,7 +13,7 @@ use Rattle.tomo_base.proofs.Ascending.{All-from_has}
 use Rattle.unit_flow.specs.Flows.{Task, Routing, IsTask, IsFlow, IsRoute, task_of, no_paths}
 use Rattle.unit_flow.specs.Order.{AreInOrder}
 use Rattle.unit_flow.proofs.Bridge.{links_differ}
-use Rattle.cross_links.specs.Arms.{freely, beside}
+use Rattle.cross_links.specs.Ways.{freely, beside, with_lists}
 use Rattle.cross_links.specs.Steps.{Begins, CanGrow, HasGrown}
 use Rattle.cross_links.proofs.Members.{has_none, has_first, has_cases, has_not}
 use Rattle.cross_links.proofs.Growing.{never_stops}
@@ -61,35 +61,35 @@ size_none g = count-none g.nodes (has []) (λ v l. has_none v)
 pub no_flow : (t : Task) → IsFlow t []
 no_flow t = record { routes = All-nil (IsRoute t); apart = (has_none t.source, tt) }
 
-module _ (g : Network) (m : ℕ → Bool) (graph : IsGraph g) where
-  -- a link joins two different nodes
-  pub differ : (v w : ℕ) → IsTrue (linked g v w) → v ≢ w
-  differ v w l = eqb-false v w (links_differ g graph v w l)
+-- a link joins two different nodes
+pub differ : (g : Network) (graph : IsGraph g) (v w : ℕ) → IsTrue (linked g v w) → v ≢ w
+differ g graph v w l = eqb-false v w (links_differ g graph v w l)
 
+module _ (g : Network) (m : ℕ → Bool) (graph : IsGraph g) where
   -- the task beside an end of a link is one
   pub beside_ok : (s x : ℕ) → IsTrue (linked g s x) → m s ≡ false → IsTask (beside g m s x)
   beside_ok s x l plain = record {
     graph = graph;
     below = (linked_below g.nodes g.links s x graph l).0;
     no_target = plain;
-    no_banned = has_not x [] s (λ e. differ s x l (sym e)) (has_none s);
+    no_banned = has_not x [] s (λ e. differ g graph s x l (sym e)) (has_none s);
   }
 
   -- so is that over any nodes
   pub freely_ok : (s : ℕ) → s < g.nodes → m s ≡ false → IsTask (freely g m s)
   freely_ok s lt plain = record { graph = graph; below = lt; no_target = plain; no_banned = has_none s }
 
-  -- all monitors are targets of tasks to the monitors
-  pub covered : (banned : ℕ → Bool) → IsInside g m (union m banned)
-  covered banned z k h = or_left (m z) (banned z) h
+-- all monitors are targets of tasks to the monitors
+pub covered : (g : Network) (m banned : ℕ → Bool) → IsInside g m (union m banned)
+covered g m banned z k h = or_left (m z) (banned z) h
 
 -- all monitors are targets of the second flow
-pub onto_inside : (g : Network) (m : ℕ → Bool) (b c : List ℕ) → IsInside g m (union (union m (has b)) (has c))
+pub onto_inside : (g : Network) (m : ℕ → Bool) (b c : List ℕ) → IsInside g m (with_lists m b c)
 onto_inside g m b c z k h = or_left (m z || has b z) (has c z) (or_left (m z) (has b z) h)
 
 -- so are they where a node is banned
-pub onto_covered : (g : Network) (m : ℕ → Bool) (b c : List ℕ) (v : ℕ) → IsInside g m (union (union (union m (has b)) (has c)) (has (v ∷ [])))
-onto_covered g m b c v z k h = or_left (union (union m (has b)) (has c) z) (has (v ∷ []) z) (onto_inside g m b c z k h)
+pub onto_covered : (g : Network) (m : ℕ → Bool) (b c : List ℕ) (v : ℕ) → IsInside g m (union (with_lists m b c) (has (v ∷ [])))
+onto_covered g m b c v z k h = or_left (with_lists m b c z) (has (v ∷ []) z) (onto_inside g m b c z k h)
 
 -- ---- flows that have grown
 

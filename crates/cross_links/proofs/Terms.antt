@@ -12,9 +12,9 @@ use Rattle.tomo_base.specs.Recipes.{weighted, gains, losses, uses_of}
 use Rattle.tomo_base.proofs.Links.{joins_comm, linked_comm}
 use Rattle.cross_links.specs.CrossRecipe.{IsCrossCoefficient, Differ, IsCrossRecipe}
 use Rattle.cross_links.specs.Joining.{turned_onto, one_term, three_terms, four_terms}
-use Rattle.cross_links.specs.Arms.{IsArm, TwoArms, FourArms}
+use Rattle.cross_links.proofs.Arms.{TwoArms, FourArms}
 use Rattle.cross_links.proofs.Members.{off_rest, has_none, has_first, has_later, has_cases, has_not, has_end, not_first}
-use Rattle.cross_links.proofs.Turned.{sum_across, sum_through, turned_left, turned_right, turned_neither, across, through}
+use Rattle.cross_links.proofs.Turned.{sum_across, sum_through, turned_left, turned_right, turned_neither, across, through, IsArm}
 
 -- the ones of a link, as a weight
 abbrev ones : Link → ℕ → ℕ → ℕ
@@ -80,7 +80,7 @@ module _ (g : Network) (m : ℕ → Bool) (v w : ℕ) (l : IsTrue (linked g v w)
   own x is = record { steps = tt; once = (has_none x, tt); ends = is }
 
   -- the path over a link between monitors
-  pub paths_one : m v ≡ true → m w ≡ true → All (λ t. IsMonitorPath g m t.1) (one_term v w)
+  paths_one : m v ≡ true → m w ≡ true → All (λ t. IsMonitorPath g m t.1) (one_term v w)
   paths_one tv tw = all_one (λ t. IsMonitorPath g m t.1) (pos 2, turned_onto (v ∷ []) (w ∷ [])) (across g m v [] w [] (own v tv) (own w tw) l (alone (w ∷ []) v (has_not w [] v (λ e. v_w (sym e)) (has_none v))))
 
   -- the three paths of a link to a monitor

@@ -8,7 +8,6 @@ use Rattle.tomo_base.specs.Walks.{StepsFrom, IsWalk, EndsIn, NoneTwice, end_of}
 use Rattle.tomo_base.specs.Identify.{sum_from, sum_over, IsMonitorPath}
 use Rattle.tomo_base.proofs.Links.{linked_comm}
 use Rattle.cross_links.specs.Joining.{turned_onto}
-use Rattle.cross_links.specs.Arms.{IsArm}
 use Rattle.cross_links.proofs.Members.{has_first, has_later, has_cases, not_first}
 
 -- it is the reverse of the first, and the second
@@ -30,7 +29,7 @@ sum_through f comm x [] b = omega arith
 sum_through f comm x (z ∷ a) b = omega (arith, sum_across f comm z a x b, comm x z)
 
 -- the joined list has the nodes of both
-pub has-turned_onto : (a b : List ℕ) (v : ℕ) → has (turned_onto a b) v ≡ (has a v || has b v)
+has-turned_onto : (a b : List ℕ) (v : ℕ) → has (turned_onto a b) v ≡ (has a v || has b v)
 unfolding has
 has-turned_onto [] b v = refl
 has-turned_onto (x ∷ a) b v = has-turned_onto a (x ∷ b) v ∙ grind arith
@@ -53,20 +52,26 @@ length-turned_onto [] b = omega arith
 length-turned_onto (x ∷ a) b = omega (arith, length-turned_onto a (x ∷ b))
 
 -- where they share no node it has none twice
-pub once_turned : (a b : List ℕ) → NoneTwice a → NoneTwice b → Apart (has a) (has b) → NoneTwice (turned_onto a b)
+once_turned : (a b : List ℕ) → NoneTwice a → NoneTwice b → Apart (has a) (has b) → NoneTwice (turned_onto a b)
 once_turned [] b once once' apart = once'
 once_turned (x ∷ a) b once once' apart = once_turned a (x ∷ b) once.1
     (false_from_ne_true (has b x) (λ k. apart x (has_first x a) k), once')
     (λ z h k. elim (has_cases x b z k) [ inl e ↦ not_first x a z once h e | inr e ↦ apart z (has_later x a z h) e ])
 
+-- a walk from x over different nodes to a node of m, by its nodes after x
+pub record IsArm (g : Network) (m : ℕ → Bool) (x : ℕ) (a : List ℕ) : Type 0 where
+  pub steps : StepsFrom g x a
+  pub once : NoneTwice (x ∷ a)
+  pub ends : IsTrue (m (end_of x a))
+
 module _ (g : Network) (m : ℕ → Bool) where
   -- a walk from x turned round, and on over a link
-  pub walk_across : (x : ℕ) (a : List ℕ) (y : ℕ) (b : List ℕ) → StepsFrom g x a → IsTrue (linked g x y) → StepsFrom g y b → IsWalk g (turned_onto (x ∷ a) (y ∷ b))
+  walk_across : (x : ℕ) (a : List ℕ) (y : ℕ) (b : List ℕ) → StepsFrom g x a → IsTrue (linked g x y) → StepsFrom g y b → IsWalk g (turned_onto (x ∷ a) (y ∷ b))
   walk_across x [] y b sa l sb = (l, sb)
   walk_across x (z ∷ a) y b sa l sb = walk_across z a x (y ∷ b) sa.1 (linked_comm g x z sa.0) (l, sb)
 
   -- its ends are those of the two
-  pub ends_across : (x : ℕ) (a : List ℕ) (y : ℕ) (b : List ℕ) → m (end_of x a) ≡ true → m (end_of y b) ≡ true → EndsIn m (turned_onto (x ∷ a) (y ∷ b))
+  ends_across : (x : ℕ) (a : List ℕ) (y : ℕ) (b : List ℕ) → m (end_of x a) ≡ true → m (end_of y b) ≡ true → EndsIn m (turned_onto (x ∷ a) (y ∷ b))
   ends_across x [] y b ea eb = (ea, eb)
   ends_across x (z ∷ a) y b ea eb = ends_across z a x (y ∷ b) ea eb
 

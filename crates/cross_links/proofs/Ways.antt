@@ -8,7 +8,8 @@ use Rattle.tomo_base.specs.Sets.{has, Apart}
 use Rattle.tomo_base.specs.Walks.{StepsFrom, NoneTwice, end_of}
 use Rattle.unit_flow.specs.Flows.{Task, LeadsFrom, IsRoute, later_of, all_later, last_of, IsFlow}
 use Rattle.cross_links.proofs.Members.{has_first, has_later, has_cases, append_left, append_right, once_left, once_right, once_apart}
-use Rattle.cross_links.specs.Arms.{IsArm, IsWay}
+use Rattle.cross_links.specs.Ways.{IsWay}
+use Rattle.cross_links.proofs.Turned.{IsArm}
 
 -- ---- on the way
 -- each node is linked to the next
@@ -22,7 +23,7 @@ leads_end t x [] l = l
 leads_end t x (y ∷ a) l = leads_end t y a l.3
 
 -- none after the first is banned
-pub leads_free : (t : Task) (x : ℕ) (a : List ℕ) (z : ℕ) → LeadsFrom t x a → has a z ≡ true → t.banned z ≡ false
+leads_free : (t : Task) (x : ℕ) (a : List ℕ) (z : ℕ) → LeadsFrom t x a → has a z ≡ true → t.banned z ≡ false
 unfolding has
 leads_free t x [] z l h = absurd (both_ways false refl h)
 leads_free t x (y ∷ a) z l h = elim (has_cases y a z h) [ inl e ↦ ap t.banned (sym e) ∙ l.2 | inr e ↦ leads_free t y a z l.3 e ]

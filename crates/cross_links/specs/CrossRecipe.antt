@@ -1,6 +1,7 @@
 -- Recipes of at most four monitor paths.
 use Rattle.std.specs.Prelude.{ℕ, ◌≡◌, ◌≢◌, ◌+◌, ◌<◌, ◌≤◌, ◌⊎◌, Bool, List, ◌++◌, length, slice_index_or, ℤ, pos, negsuc, All, AllPairs}
 use Rattle.tomo_base.specs.Network.{Network}
+use Rattle.tomo_base.specs.Table.{JoinsAt}
 use Rattle.tomo_base.specs.Sets.{has}
 use Rattle.tomo_base.specs.Identify.{IsMonitorPath}
 use Rattle.tomo_base.specs.Recipes.{IsRecipe}
@@ -33,3 +34,7 @@ pub record AddsRecipe (g : Network) (m : ℕ → Bool) (i : ℕ) (old new : List
   pub paths : All (IsMonitorPath g m) added
   pub short : All (λ p. length p ≤ g.nodes) added
   pub recipe : IsCrossRecipe g m i (path_terms new terms)
+
+-- so for the link between v and w, whatever its number
+abbrev pub AddsRecipeBetween : Network → (ℕ → Bool) → ℕ → ℕ → List (List ℕ) → List (List ℕ) → List Term → Type 0
+AddsRecipeBetween g m v w old new terms = (i : ℕ) → JoinsAt g.links i v w → AddsRecipe g m i old new terms

@@ -1,5 +1,5 @@
 pub mod CrossRecipe
 pub mod Joining
-pub mod Arms
+pub mod Ways
 pub mod Steps
 pub mod Laws

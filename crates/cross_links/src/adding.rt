@@ -1,8 +1,7 @@
 // Paths joined of two, as terms.
 ghost use Rattle.std.specs.Prelude.{◌≡◌, ◌<◌, ◌≤◌, ◌+◌, ◌^◌, ◌++◌, [], ◌∷◌, length, IfOk, OnOk, OnErr};
 ghost use Rattle.simple_path.specs.Pools.{nodes_in};
-ghost use Rattle.simple_path.specs.declared.recipe.Term.{Term};
-ghost use Rattle.cross_links.specs.Joining.{turned_onto, one_term, three_terms, four_terms, paths_of, Names};
+ghost use Rattle.cross_links.specs.Joining.{turned_onto, term, one_term, three_terms, four_terms, paths_of, Names};
 ghost use Rattle.cross_links.specs.Steps.{Longer};
 
 use simple_path::{PathPool, Recipe, Term};
@@ -32,7 +31,7 @@ fn add_term(
     requires nodes { nodes_in pool.old + (length a.now + length b.now) < 2 ^ 31 }
     requires terms { length recipe.old + 1 < 2 ^ 32 }
     ensures pool { OnOk result (pool.new ≡ pool.old ++ turned_onto a.now b.now ∷ []) }
-    ensures recipe { OnOk result (recipe.new ≡ recipe.old ++ (record { coef = coef; path = length pool.old }) ∷ []) }
+    ensures recipe { OnOk result (recipe.new ≡ recipe.old ++ term coef (length pool.old) ∷ []) }
     ensures err { OnErr result (Longer pool.old pool.new) }
 {
     let whole = joined(alloc, a, b)?;
@@ -41,7 +40,7 @@ fn add_term(
 }
 
 /// The term of a link between two monitors.
-pub fn one_path(alloc: Global, v: u32, w: u32, pool: &mut PathPool) -> Result<Recipe, NoMemory>
+pub fn one_path(alloc: Global, pool: &mut PathPool, v: u32, w: u32) -> Result<Recipe, NoMemory>
     requires few { length pool.old + 1 < 2 ^ 31 }
     requires room { nodes_in pool.old + 2 < 2 ^ 31 }
     ensures ok { IfOk result (λ r. Names pool.old pool.new r (one_term v w)) }

@@ -1,13 +1,12 @@
 // The recipe of a link, by which of its ends are monitors.
-ghost use Rattle.std.specs.Prelude.{◌≡◌, ◌<◌, ◌≤◌, ◌+◌, ◌*◌, ◌^◌, ℕ, length, All, IfOk, OnErr, IsTrue, false};
+ghost use Rattle.std.specs.Prelude.{◌≡◌, ◌<◌, ◌≤◌, ◌+◌, ◌*◌, ◌^◌, length, All, IfOk, OnErr, IsTrue, false};
 ghost use Rattle.tomo_base.specs.Network.{linked, IsGraph};
 ghost use Rattle.tomo_base.specs.Sets.{has};
-ghost use Rattle.tomo_base.specs.Table.{JoinsAt};
 ghost use Rattle.tomo_base.specs.Walks.{IsConnected};
 ghost use Rattle.tomo_base.specs.Identify.{Identifies};
 ghost use Rattle.tomo_base.specs.BadParts.{NoBadPart};
 ghost use Rattle.simple_path.specs.Pools.{nodes_in};
-ghost use Rattle.cross_links.specs.CrossRecipe.{AddsRecipe};
+ghost use Rattle.cross_links.specs.CrossRecipe.{AddsRecipe, AddsRecipeBetween};
 ghost use Rattle.cross_links.specs.Steps.{Longer};
 
 use crate::adding::{four_paths, one_path, three_paths};
@@ -17,7 +16,7 @@ use simple_path::{PathPool, Recipe};
 use std::alloc::Global;
 use tomo_base::{Graph, NoMemory, NodeSet};
 
-// A link from v, which is no monitor, to the monitor w: two ways from v that avoid w, each with the link in front, and less the path of both.
+// A link from v, which is no monitor, to the monitor w: the paths over it and on along two ways from v, less the path along both ways.
 fn to_monitor(
     alloc: Global,
     g: &Graph,
@@ -34,15 +33,15 @@ fn to_monitor(
     requires nodes { All (λ u. u < g.now.nodes) m.now }
     requires few { length pool.old + 3 < 2 ^ 31 }
     requires room { nodes_in pool.old + 3 * g.now.nodes < 2 ^ 31 }
-    ensures ok { IfOk result (λ r. (i : ℕ) → JoinsAt g.now.links i v w → AddsRecipe g.now (has m.now) i pool.old pool.new r) }
+    ensures ok { IfOk result (AddsRecipeBetween g.now (has m.now) v w pool.old pool.new) }
     ensures err { OnErr result (Longer pool.old pool.new) }
 {
     let ways = two_ways(alloc, g, m, v, w)?;
     three_paths(alloc, pool, w, ways.path(0), ways.path(1))
 }
 
-// A link between two nodes that are no monitors: of each two ways to monitors, of which all but one pair share nothing. Two paths over
-// the link join a way of the one with a way of the other, and two paths join the ways of each.
+// A link between two nodes that are no monitors, of which each has two ways to monitors. Two paths go over the link and along one way of
+// each end, so that each way is used once; less the path along both ways of v, and the path along both ways of w.
 fn between_others(
     alloc: Global,
     g: &Graph,
@@ -59,7 +58,7 @@ fn between_others(
     requires nodes { All (λ u. u < g.now.nodes) m.now }
     requires few { length pool.old + 4 < 2 ^ 31 }
     requires room { nodes_in pool.old + 4 * g.now.nodes < 2 ^ 31 }
-    ensures ok { IfOk result (λ r. (i : ℕ) → JoinsAt g.now.links i v w → AddsRecipe g.now (has m.now) i pool.old pool.new r) }
+    ensures ok { IfOk result (AddsRecipeBetween g.now (has m.now) v w pool.old pool.new) }
     ensures err { OnErr result (Longer pool.old pool.new) }
 {
     let ways = three_ways(alloc, g, m, v, w)?;
@@ -67,10 +66,10 @@ fn between_others(
     let (kept, b, c) = (ways.path(i), ways.path((i + 1) % 3), ways.path((i + 2) % 3));
     let others = second_ways(alloc, g, m, v, &kept[1..], &b[1..], &c[1..])?;
     let j = path_with(&others, kept[kept.len() - 1]);
-    let (third, way) = (others.path(j), others.path(1 - j));
+    let (straight, way) = (others.path(j), others.path(1 - j));
     let (near, far) = met_first(b, c, way[way.len() - 1]);
-    let fourth = led_on(alloc, way, &near[1..])?;
-    four_paths(alloc, pool, near, far, third, &fourth)
+    let led = led_on(alloc, way, &near[1..])?;
+    four_paths(alloc, pool, near, far, straight, &led)
 }
 
 // The recipe of a link between v and w.
@@ -88,22 +87,22 @@ fn between(
     requires nodes { All (λ u. u < g.now.nodes) m.now }
     requires few { length pool.old + 4 < 2 ^ 31 }
     requires room { nodes_in pool.old + 4 * g.now.nodes < 2 ^ 31 }
-    ensures ok { IfOk result (λ r. (i : ℕ) → JoinsAt g.now.links i v w → AddsRecipe g.now (has m.now) i pool.old pool.new r) }
+    ensures ok { IfOk result (AddsRecipeBetween g.now (has m.now) v w pool.old pool.new) }
     ensures err { OnErr result (Longer pool.old pool.new) }
 {
     match (m.has(v), m.has(w)) {
-        (true, true) => one_path(alloc, v, w, pool),
+        (true, true) => one_path(alloc, pool, v, w),
         (false, true) => to_monitor(alloc, g, m, v, w, pool),
         (true, false) => to_monitor(alloc, g, m, w, v, pool),
         (false, false) => between_others(alloc, g, m, v, w, pool),
     }
 }
 
-/// A recipe of at most four monitor paths for a link, which are added to the pool, none longer than the graph has nodes. The setting, and
-/// the name of the problem, are those of Ma, He, Leung, Swami and Towsley (2013). A link between two monitors is a path of its own. A link
-/// to one monitor is what two paths over it have more than the path that joins their other parts; and a link between two other nodes what
-/// two paths over it have more than two that join their parts. Time is linear in nodes and links, but for a logarithm where a set is built:
-/// two flows of at most three paths. After want of memory the pool is as before.
+/// A recipe of at most four monitor paths for a link, in the setting of Ma, He, Leung, Swami and Towsley (2013). A link between two
+/// monitors is a path of its own. A link to one monitor is what two paths over it have more than the path that joins their other parts. A
+/// link between two other nodes is what two paths over it have more than the two paths that join, at each end of it, their other parts.
+/// The paths are added to the pool, and none has more nodes than the graph. After want of memory the pool is as before.
+/// It makes at most four searches for paths. Time is linear in nodes and links, but for the logarithm of a search in an ordered set.
 pub fn recipe(
     alloc: Global,
     g: &Graph,

@@ -4,7 +4,7 @@ ghost use Rattle.tomo_base.specs.Network.{linked, IsGraph};
 ghost use Rattle.tomo_base.specs.Sets.{has};
 ghost use Rattle.tomo_base.specs.BadParts.{NoBadPart};
 ghost use Rattle.unit_flow.specs.Flows.{IsFlow, first_of, second_of, last_of};
-ghost use Rattle.cross_links.specs.Arms.{freely, beside, onto, KeepsWay};
+ghost use Rattle.cross_links.specs.Ways.{freely, beside, onto, KeepsWay};
 
 use crate::growth::{flow_beside, grow};
 use crate::meeting::ends_on;
@@ -74,8 +74,8 @@ pub fn three_ways(
     flow.paths(alloc)
 }
 
-/// Two ways from the first node of a way that is kept, which share only that node and avoid v. They end at different monitors or at
-/// nodes of two further ways from v, one of them where the kept way ends.
+/// Two ways that share only their source, the first node of a way that is kept, and avoid v. They end at monitors, or at nodes of the two
+/// lists; one of them where the kept way ends.
 pub fn second_ways(
     alloc: Global,
     g: &Graph,

@@ -2,14 +2,14 @@
 ghost use Rattle.std.specs.Prelude.{◌≡◌, ◌<◌, All, IfOk, OnOk, false};
 ghost use Rattle.tomo_base.specs.Sets.{has};
 ghost use Rattle.unit_flow.specs.Flows.{task_of};
-ghost use Rattle.cross_links.specs.Arms.{beside};
+ghost use Rattle.cross_links.specs.Ways.{beside};
 ghost use Rattle.cross_links.specs.Steps.{Begins, CanGrow, HasGrown};
 
 use std::alloc::Global;
 use tomo_base::{Graph, NoMemory, NodeSet};
 use unit_flow::{Flow, Widened};
 
-/// A flow without paths from a node to targets that avoids another node.
+/// A flow without paths from a node to targets, which bans another node.
 pub fn flow_beside(
     alloc: Global,
     g: &Graph,

@@ -1,8 +1,9 @@
-// Lists of nodes: those on which a node lies, and where two meet.
+// Ways and the nodes at which they meet.
 ghost use Rattle.std.specs.Prelude.{◌≡◌, ◌<◌, ◌≤◌, ℕ, [], length, All, IfOk, IsTrue, slice_index_or};
 ghost use Rattle.std.specs.List.{list_any};
-ghost use Rattle.tomo_base.specs.Sets.{has, union};
+ghost use Rattle.tomo_base.specs.Sets.{has};
 ghost use Rattle.tomo_base.specs.NodeLists.{node_limit};
+ghost use Rattle.cross_links.specs.Ways.{with_lists};
 ghost use Rattle.cross_links.specs.Steps.{IsLedOn, IsChoice};
 
 use simple_path::PathPool;
@@ -22,7 +23,7 @@ pub fn ends_on(
     requires set { All (λ v. v < count) m.now }
     requires first { All (λ v. v < count) b.now }
     requires second { All (λ v. v < count) c.now }
-    ensures ends { IfOk result (λ s. (v : ℕ) → has s v ≡ union (union (has m.now) (has b.now)) (has c.now) v) }
+    ensures ends { IfOk result (λ s. (v : ℕ) → has s v ≡ with_lists (has m.now) b.now c.now v) }
 {
     let mut ends = marks(alloc, count, m)?;
     mark(&mut ends, b);

@@ -20,7 +20,7 @@ returns-in-true-true-clause-ok c =
     let g = c.args.g.now in
     let m = has c.args.m.now in
     IfOk-weaker c.one_path.result _ _ (λ r names i at. names_recipe g m i c.args.pool.now c.one_path.new.pool r (one_term c.args.v c.args.w) c.requires.graph names
-    (by_one g m c.args.v c.args.w c.requires.linked (differ g m c.requires.graph c.args.v c.args.w c.requires.linked) i (only_joins g i c.args.v c.args.w c.requires.graph at) (sym c.in-true-true.ensures) (sym c.in-true-true.ensures'))) c.one_path.ensures.ok
+    (by_one g m c.args.v c.args.w c.requires.linked (differ g c.requires.graph c.args.v c.args.w c.requires.linked) i (only_joins g i c.args.v c.args.w c.requires.graph at) (sym c.in-true-true.ensures) (sym c.in-true-true.ensures'))) c.one_path.ensures.ok
 
 pub returns-in-true-false-clause-ok : goal.returns-in-true-false-clause-ok
 returns-in-true-false-clause-ok c = IfOk-weaker c.to_monitor.result _ _ (λ r adds i at. adds i (at.0, at.1, joins_comm at.0 c.args.w c.args.v ∙ at.2)) c.to_monitor.ensures.ok

@@ -7,11 +7,11 @@ use Rattle.simple_path.specs.Pools.{nodes_in}
 use Rattle.unit_flow.specs.Flows.{later_of}
 use Rattle.cross_links.specs.CrossRecipe.{IsCrossRecipe}
 use Rattle.cross_links.specs.Joining.{four_terms, paths_of}
-use Rattle.cross_links.specs.Arms.{freely}
+use Rattle.cross_links.specs.Ways.{freely}
 use Rattle.cross_links.proofs.Recipes.{IsPlain, FirstFlow, SecondFlow, some_over, keeps, keeps_read, second_read, ends_as, some_end, end_node, MakesRecipe, makes_read, turns}
 use Rattle.cross_links.proofs.Ways.{whole_at}
 use Rattle.cross_links.proofs.Naming.{names_recipe}
-use Rattle.cross_links.proofs.crossing.between_others.Goals.{In_ok-ways, In_ok-others, In_ok-fourth}
+use Rattle.cross_links.proofs.crossing.between_others.Goals.{In_ok-ways, In_ok-others, In_ok-led}
 use Rattle.cross_links.proofs.crossing.between_others.Goals as goal
 
 -- the link
@@ -59,11 +59,11 @@ path_with-j-requires c =
     (later_of (get_or c.in_ok-ways.ways ((c.path_with-i.result + 2) % 3) [])) c.in_ok-others.others (second at))
 
 -- the terms of the four paths
-makes : (c : In_ok-fourth) →
+makes : (c : In_ok-led) →
     SecondFlow c.args.g.now (has c.args.m.now) c.args.v c.args.w (later_of (later_of (get_or c.in_ok-ways.ways c.path_with-i.result [])))
     (later_of (get_or c.in_ok-ways.ways ((c.path_with-i.result + 1) % 3) [])) (later_of (get_or c.in_ok-ways.ways ((c.path_with-i.result + 2) % 3) [])) c.in_ok-others.others →
     get_or c.path-kept.result.now (length c.path-kept.result.now - 1) 0 ≡ end_of c.args.w (later_of (later_of (get_or c.in_ok-ways.ways c.path_with-i.result []))) →
-    MakesRecipe c.args.g.now (has c.args.m.now) c.args.v c.args.w 4 (four_terms c.met_first.result.0.now c.met_first.result.1.now c.path-third.result.now c.in_ok-fourth.fourth.items)
+    MakesRecipe c.args.g.now (has c.args.m.now) c.args.v c.args.w 4 (four_terms c.met_first.result.0.now c.met_first.result.1.now c.path-straight.result.now c.in_ok-led.led.items)
 makes c second end =
     let link : IsPlain c.args.g.now (has c.args.m.now) c.args.v c.args.w = record { graph = c.requires.graph; linked = c.requires.linked; plain_v = c.requires.plain; plain_w = c.requires.plain_neighbour } in
     let ps = c.in_ok-ways.ways in
@@ -73,23 +73,23 @@ makes c second end =
     let at = turns i inside in
     makes_read c.args.g.now (has c.args.m.now) c.args.v c.args.w link (later_of (later_of (get_or ps i []))) (later_of (get_or ps ((i + 1) % 3) [])) (later_of (get_or ps ((i + 2) % 3) [])) c.in_ok-others.others second
     c.path_with-j.result c.path_with-j.ensures.inside (get_or c.path-kept.result.now (length c.path-kept.result.now - 1) 0) end c.path_with-j.ensures.holds
-    c.path-b.result.now c.path-c.result.now c.path-third.result.now c.path-way.result.now c.met_first.result.0.now c.met_first.result.1.now c.in_ok-fourth.fourth.items
+    c.path-b.result.now c.path-c.result.now c.path-straight.result.now c.path-way.result.now c.met_first.result.0.now c.met_first.result.1.now c.in_ok-led.led.items
     (c.path-b.ensures ∙ whole_at t ps c.in_ok-ways.ensures.flow ((i + 1) % 3) [] (omega (arith, at.3, c.in_ok-ways.ensures.three)))
     (c.path-c.ensures ∙ whole_at t ps c.in_ok-ways.ensures.flow ((i + 2) % 3) [] (omega (arith, at.4, c.in_ok-ways.ensures.three)))
-    c.path-third.ensures c.path-way.ensures c.met_first.ensures c.in_ok-fourth.ensures
+    c.path-straight.ensures c.path-way.ensures c.met_first.ensures c.in_ok-led.ensures
 
 pub four_paths-requires-clause-room : goal.four_paths-requires-clause-room
 four_paths-requires-clause-room c =
     let before = (goal.at.four_paths-requires-clause-room c).In_ok-others in
-    let made = makes (goal.at.four_paths-requires-clause-room c).In_ok-fourth (second before) (kept_end before) in
-    let same : c.deref.result.now ≡ c.in_ok-fourth.fourth.items = c.deref.ensures.value in
-    omega (arith, made.room, ap (λ d. nodes_in (paths_of (four_terms c.met_first.result.0.now c.met_first.result.1.now c.path-third.result.now d))) same, c.requires.room)
+    let made = makes (goal.at.four_paths-requires-clause-room c).In_ok-led (second before) (kept_end before) in
+    let same : c.deref.result.now ≡ c.in_ok-led.led.items = c.deref.ensures.value in
+    omega (arith, made.room, ap (λ d. nodes_in (paths_of (four_terms c.met_first.result.0.now c.met_first.result.1.now c.path-straight.result.now d))) same, c.requires.room)
 
 pub returns-clause-ok : goal.returns-clause-ok
 returns-clause-ok c =
     let before = (goal.at.returns-clause-ok c).In_ok-others in
-    let made = makes (goal.at.returns-clause-ok c).In_ok-fourth (second before) (kept_end before) in
+    let made = makes (goal.at.returns-clause-ok c).In_ok-led (second before) (kept_end before) in
     IfOk-weaker c.four_paths.result _ _ (λ r names i at.
-    names_recipe c.args.g.now (has c.args.m.now) i c.args.pool.now c.four_paths.new.pool r (four_terms c.met_first.result.0.now c.met_first.result.1.now c.path-third.result.now c.deref.result.now) c.requires.graph names
-    (subst (λ d. IsCrossRecipe c.args.g.now (has c.args.m.now) i (four_terms c.met_first.result.0.now c.met_first.result.1.now c.path-third.result.now d)) (sym c.deref.ensures.value)
+    names_recipe c.args.g.now (has c.args.m.now) i c.args.pool.now c.four_paths.new.pool r (four_terms c.met_first.result.0.now c.met_first.result.1.now c.path-straight.result.now c.deref.result.now) c.requires.graph names
+    (subst (λ d. IsCrossRecipe c.args.g.now (has c.args.m.now) i (four_terms c.met_first.result.0.now c.met_first.result.1.now c.path-straight.result.now d)) (sym c.deref.ensures.value)
     (made.recipe i at))) c.four_paths.ensures.ok

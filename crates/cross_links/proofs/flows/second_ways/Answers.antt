@@ -3,7 +3,7 @@ use Rattle.std.proofs.lemmas.Result.{IfOk-weaker}
 use Rattle.tomo_base.specs.Sets.{has}
 use Rattle.tomo_base.proofs.Ascending.{All-has}
 use Rattle.unit_flow.specs.Flows.{task_of, IsFlow, first_of, last_of}
-use Rattle.cross_links.specs.Arms.{onto}
+use Rattle.cross_links.specs.Ways.{onto}
 use Rattle.cross_links.proofs.Members.{has_first}
 use Rattle.cross_links.proofs.Tasks.{grown_kept, grown_more, order_many, order_has}
 use Rattle.cross_links.proofs.Second.{way_below, ends_below, ends_differ, targets_below, second_task, second_no_target, second_path, second_grows}

@@ -3,7 +3,7 @@ use Rattle.std.proofs.lemmas.Result.{IfOk-weaker}
 use Rattle.tomo_base.specs.Sets.{has}
 use Rattle.tomo_base.proofs.Links.{linked_below}
 use Rattle.unit_flow.specs.Flows.{second_of}
-use Rattle.cross_links.specs.Arms.{freely}
+use Rattle.cross_links.specs.Ways.{freely}
 use Rattle.cross_links.proofs.Members.{has_none, has_first}
 use Rattle.cross_links.proofs.Tasks.{freely_ok, freely_grows, begins_freely, grown_kept, grown_more, order_many, order_has}
 use Rattle.cross_links.proofs.flows.three_ways.Goals as goal

@@ -2,7 +2,7 @@ use Rattle.std.proofs.Common.{◌∙◌, arith}
 use Rattle.std.proofs.lemmas.Result.{IfOk-weaker}
 use Rattle.tomo_base.specs.Sets.{has}
 use Rattle.tomo_base.proofs.Links.{linked_below}
-use Rattle.cross_links.specs.Arms.{beside}
+use Rattle.cross_links.specs.Ways.{beside}
 use Rattle.cross_links.proofs.Tasks.{differ, beside_ok, beside_grows, grown_none, grown_more, order_many}
 use Rattle.cross_links.proofs.flows.two_ways.Goals as goal
 
@@ -13,7 +13,7 @@ pub flow_beside-requires-clause-avoided : goal.flow_beside-requires-clause-avoid
 flow_beside-requires-clause-avoided c = (linked_below c.args.g.now.nodes c.args.g.now.links c.args.v c.args.w c.requires.graph c.requires.linked).1
 
 pub flow_beside-requires-clause-differ : goal.flow_beside-requires-clause-differ
-flow_beside-requires-clause-differ c = differ c.args.g.now (has c.args.m.now) c.requires.graph c.args.v c.args.w c.requires.linked
+flow_beside-requires-clause-differ c = differ c.args.g.now c.requires.graph c.args.v c.args.w c.requires.linked
 
 pub grow-requires-clause-grows : goal.grow-requires-clause-grows
 grow-requires-clause-grows c =

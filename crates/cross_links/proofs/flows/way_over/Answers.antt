@@ -2,7 +2,7 @@ use Rattle.std.proofs.Common.{◌≡◌, ◌++◌, ◌∷◌, [], get_or, sym, a
 use Rattle.tomo_base.specs.Sets.{has}
 use Rattle.tomo_base.proofs.Links.{linked_below, linked_comm}
 use Rattle.unit_flow.specs.Flows.{IsFlow, second_of}
-use Rattle.cross_links.specs.Arms.{beside, freely}
+use Rattle.cross_links.specs.Ways.{beside, freely}
 use Rattle.cross_links.proofs.Tasks.{differ, beside_ok, beside_grows, grown_none, grown_more, order_many}
 use Rattle.cross_links.proofs.Cases.{first_way}
 use Rattle.cross_links.proofs.flows.way_over.Goals as goal
@@ -14,7 +14,7 @@ pub flow_beside-requires-clause-avoided : goal.flow_beside-requires-clause-avoid
 flow_beside-requires-clause-avoided c = (linked_below c.args.g.now.nodes c.args.g.now.links c.args.v c.args.w c.requires.graph c.requires.linked).0
 
 pub flow_beside-requires-clause-differ : goal.flow_beside-requires-clause-differ
-flow_beside-requires-clause-differ c = λ e. differ c.args.g.now (has c.args.m.now) c.requires.graph c.args.v c.args.w c.requires.linked (sym e)
+flow_beside-requires-clause-differ c = λ e. differ c.args.g.now c.requires.graph c.args.v c.args.w c.requires.linked (sym e)
 
 pub grow-requires-clause-grows : goal.grow-requires-clause-grows
 grow-requires-clause-grows c =
@@ -44,7 +44,7 @@ made c =
     let m = has c.args.m.now in
     let t = beside g m c.args.w c.args.v in
     let one = grown_more t 0 c.in_ok-flow.flow c.grow.new.flow (grown_none t c.in_ok-flow.flow c.in_ok-flow.ensures) c.in_ok-grow.ensures in
-    first_way g m c.args.v c.args.w c.in_ok-ways.ways c.requires.linked c.requires.plain (differ g m c.requires.graph c.args.v c.args.w c.requires.linked)
+    first_way g m c.args.v c.args.w c.in_ok-ways.ways c.requires.linked c.requires.plain (differ g c.requires.graph c.args.v c.args.w c.requires.linked)
     (subst (λ t. IsFlow t c.in_ok-ways.ways) one.task c.in_ok-ways.ensures.flow) (omega (arith, order_many c.grow.new.flow.paths c.in_ok-ways.ways c.in_ok-ways.ensures.order, one.many))
 
 pub returns-clause-flow : goal.returns-clause-flow

@@ -22,7 +22,7 @@ returns c =
           inr (
             take i path,
             drop (i + 1) path,
-            at.around_it ∙ ap (λ y. take i path ++ y ∷ drop (i + 1) path) is_end,
+            at ∙ ap (λ y. take i path ++ y ∷ drop (i + 1) path) is_end,
             ap (λ v. v.items) w.whole-is ∙ (w.in_ok-extend_from_slice.ensures.items ∙ ap₂ (λ a b. a ++ b) copied (rest_from path (i + 1))),
           )
       | in_default w ↦ inl (ap (has path) (sym is_end) ∙ not_found path end c.position.result w.in_default.is found, ap (λ v. v.items) w.whole-is ∙ copied)

@@ -28,15 +28,6 @@ some_at [] i x h = absurd (none h)
 some_at (y ∷ ys) zero x h = cc h
 some_at (y ∷ ys) (suc i) x h = some_at ys i x h
 
--- a network whose nodes have at most two neighbours is planned
-pub plan_ready : (name : List ℕ) (t : Topo) (n : Narrow) → n.topology ≡ t → WithTopology Plan name t (Stop (Ready (inputs.Plan n)))
-plan_ready name t n same = inl (n, same, refl)
-
--- any other is refused
-pub plan_refused : (name : List ℕ) (t : Topo) (v : ℕ) (place : List ℕ) (rows : RowList) → IsFirstHub t.graph v → slice_get t.names v ≡ Some place
-    → rows ≡ refused name (codes "degree") place → WithTopology Plan name t (Stop (Refused rows))
-plan_refused name t v place rows hub there same = inr (v, hub, ap (λ r. Stop (Refused r)) (same ∙ ap (refused name (codes "degree")) (sym (some_at t.names v place there))))
-
 -- a file within its limit does what its rows do
 steps_within : (wants : Wants) (name content : List ℕ) (next : Next) → length content ≤ limit (kind_of wants) → Takes wants name (rows_of content) next → Steps wants name content next
 steps_within wants name content next within takes = elim (cases_Bool (nat_lt (limit (kind_of wants)) (length content))) [

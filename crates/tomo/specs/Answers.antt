@@ -7,11 +7,11 @@ use Rattle.topology.specs.Topology.{Topo}
 use Rattle.judge.specs.Verdict.{IsFoundBad}
 use Rattle.plan_form.specs.Parts.{PlanParts}
 use Rattle.plan_form.specs.PlanRows.{plan_rows}
-use Rattle.planner.specs.Planned.{IsPlanned}
+use Rattle.planner.specs.Planned.{IsPlanned, IsPlanFor}
 use Rattle.tomo.specs.declared.status.Status.{Status}
 use Rattle.tomo.specs.declared.status.Status.TheVariants.{Done, Negative, BadInput}
 use Rattle.tomo.specs.declared.machine.Inputs.{Inputs}
-use Rattle.tomo.specs.declared.machine.Inputs.TheVariants.{Plan, Judge}
+use Rattle.tomo.specs.declared.machine.Inputs.TheVariants.{Plan, Judge, Paths}
 use Rattle.tomo.specs.declared.machine.End.{End}
 use Rattle.tomo.specs.declared.machine.End.TheVariants.{Ready, Refused}
 
@@ -31,10 +31,16 @@ TellsBad t monitors status rows = (status ≡ Negative) × (nodes : List ℕ) ×
 abbrev pub Judges : Topo → List ℕ → Status → List Row → Type 0
 Judges t monitors status rows = ((status ≡ Done) × Identifies t.graph (has monitors) × (rows ≡ yes_row (length monitors) ∷ [])) ⊎ TellsBad t monitors status rows
 
+-- a plan for the monitors, where they identify every link
+abbrev pub PlansFor : Topo → List ℕ → Status → List Row → Type 0
+PlansFor t monitors status rows =
+    ((status ≡ Done) × Identifies t.graph (has monitors) × (p : PlanParts) × IsPlanFor t.names t.graph monitors p × (rows ≡ plan_rows p)) ⊎ TellsBad t monitors status rows
+
 -- the answers of each command
 abbrev pub Answers : Inputs → Status → List Row → Type 0
-Answers (Plan n) status rows = (status ≡ Done) × (p : PlanParts) × IsPlanned n.topology.names n.topology.graph p × (rows ≡ plan_rows p)
+Answers (Plan t) status rows = (status ≡ Done) × (p : PlanParts) × IsPlanned t.names t.graph p × (rows ≡ plan_rows p)
 Answers (Judge p) status rows = Judges p.topology p.monitors status rows
+Answers (Paths p) status rows = PlansFor p.topology p.monitors status rows
 
 -- the answers where the reading ended
 abbrev pub Ends : End → Status → List Row → Type 0

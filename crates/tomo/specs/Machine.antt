@@ -10,17 +10,15 @@ use Rattle.topology.specs.declared.faults.TopoFault.TheVariants as faults
 use Rattle.topology.specs.declared.faults.MonFault.{MonFault}
 use Rattle.topology.specs.declared.faults.MonFault.TheVariants as mon_faults
 use Rattle.topology.specs.Monitors.{AllKnown, IsMonFault, monitors_of}
-use Rattle.planner.specs.Narrow.{IsFirstHub}
 use Rattle.tomo.specs.Table.{limit, files_of}
 use Rattle.tomo.specs.Refusals.{refused, topology_reason, topology_place, monitor_reason, monitor_place}
 use Rattle.tomo.specs.declared.table.Command.{Command}
 use Rattle.tomo.specs.declared.table.Command.TheVariants.{Plan, WithMonitors}
 use Rattle.tomo.specs.declared.table.MonitorTask.{MonitorTask}
-use Rattle.tomo.specs.declared.table.MonitorTask.TheVariants.{Judge}
+use Rattle.tomo.specs.declared.table.MonitorTask.TheVariants.{Judge, Paths}
 use Rattle.tomo.specs.declared.table.Kind.{Kind}
 use Rattle.tomo.specs.declared.table.Kind.TheVariants.{TopologyFile, MonitorFile}
 use Rattle.tomo.specs.declared.table.Shape.{Shape}
-use Rattle.tomo.specs.declared.narrow.Narrow.{Narrow}
 use Rattle.tomo.specs.declared.placed.Placed.{Placed}
 use Rattle.tomo.specs.declared.machine.Wants.{Wants}
 use Rattle.tomo.specs.declared.machine.Wants.TheVariants.{Topology, Monitors}
@@ -49,23 +47,22 @@ pub record IsRead (header : Bool) (rows : List Row) (t : Topo) : Type 0 where
   pub named : t ≡ topo_of (examined header rows)
   pub topology : IsTopology t
 
--- what a command does with the topology: `plan` serves networks whose nodes have at most two neighbours, and refuses the others
-abbrev pub WithTopology : Command → List ℕ → Topo → Next → Type 0
-WithTopology Plan name t next =
-    ((n : Narrow) × (n.topology ≡ t) × (next ≡ Stop (Ready (inputs.Plan n))))
-    ⊎ ((v : ℕ) × IsFirstHub t.graph v × (next ≡ Stop (Refused (refused name (codes "degree") (slice_index_or t.names v [])))))
-WithTopology (WithMonitors task) name t next = next ≡ Ask (Monitors task t)
+-- what a command does with the topology
+abbrev pub with_topology : Command → Topo → Next
+with_topology Plan t = Stop (Ready (inputs.Plan t))
+with_topology (WithMonitors task) t = Ask (Monitors task t)
 
 -- what the rows of a topology file do: they are a topology, or refused for their first fault
 abbrev pub TakesTopology : Command → Bool → List ℕ → List Row → Next → Type 0
 TakesTopology command header name rows next =
-    ((t : Topo) × IsRead header rows t × WithTopology command name t next)
+    ((t : Topo) × IsRead header rows t × (next ≡ with_topology command t))
     ⊎ ((f : TopoFault) × (f ≢ faults.NoMemory) × IsTopoFault header rows f
     × (next ≡ Stop (Refused (refused name (topology_reason f) (topology_place (names_of (examined header rows)) f)))))
 
 -- a task with its topology and monitors
 abbrev pub with_monitors : MonitorTask → Placed → Next
 with_monitors Judge p = Stop (Ready (inputs.Judge p))
+with_monitors Paths p = Stop (Ready (inputs.Paths p))
 
 -- what the rows of a monitor file do: they name nodes, or are refused at the first that names none
 abbrev pub TakesMonitors : MonitorTask → Topo → List ℕ → List Row → Next → Type 0

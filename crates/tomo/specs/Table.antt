@@ -4,7 +4,7 @@ use Rattle.std.specs.List.{starts_with}
 use Rattle.std.specs.Str.{bytes_eq}
 use Rattle.tomo.specs.declared.table.Command.{Command}
 use Rattle.tomo.specs.declared.table.Command.TheVariants.{Plan, WithMonitors}
-use Rattle.tomo.specs.declared.table.MonitorTask.TheVariants.{Judge}
+use Rattle.tomo.specs.declared.table.MonitorTask.TheVariants.{Judge, Paths}
 use Rattle.tomo.specs.declared.table.Kind.{Kind}
 use Rattle.tomo.specs.declared.table.Kind.TheVariants.{TopologyFile, MonitorFile}
 use Rattle.tomo.specs.declared.table.Shape.{Shape}
@@ -16,7 +16,10 @@ limit MonitorFile = 4194304
 
 -- the word of each command
 abbrev pub command_of : List ℕ → Option Command
-command_of word = if bytes_eq word (codes "plan") then Some Plan else (if bytes_eq word (codes "judge") then Some (WithMonitors Judge) else None)
+command_of word =
+    if bytes_eq word (codes "plan") then Some Plan else
+    (if bytes_eq word (codes "judge") then Some (WithMonitors Judge) else
+    (if bytes_eq word (codes "paths") then Some (WithMonitors Paths) else None))
 
 -- the files of each command, in the order in which they are asked for
 abbrev pub files_of : Command → List Kind
@@ -26,7 +29,7 @@ files_of (WithMonitors task) = TopologyFile ∷ MonitorFile ∷ []
 -- how many words a command takes after its files
 abbrev pub other_words : Command → ℕ
 other_words Plan = 0
-other_words (WithMonitors Judge) = 0
+other_words (WithMonitors task) = 0
 
 -- how many words a command takes in all after its own and the option
 abbrev pub word_count : Command → ℕ

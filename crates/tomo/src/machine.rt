@@ -2,14 +2,12 @@
 ghost use Rattle.std.specs.Prelude.{◌≡◌, ◌≤◌, IfOk, length};
 ghost use Rattle.rows.specs.Rows.{rows_of};
 ghost use Rattle.tomo.specs.Table.{files_of, limit};
-ghost use Rattle.tomo.specs.Machine.{files_left, kind_of, start, WithTopology, TakesTopology, with_monitors as then_monitors, TakesMonitors, Takes, StepsBy, Fewer, StartsWith};
+ghost use Rattle.tomo.specs.Machine.{files_left, kind_of, start, with_topology as then_topology, TakesTopology, with_monitors as then_monitors, TakesMonitors, Takes, StepsBy, Fewer, StartsWith};
 
-use crate::narrow::Narrow;
 use crate::placed::Placed;
-use crate::refusal::{refuse, refuse_at, refuse_monitors, refuse_topology};
+use crate::refusal::{refuse_at, refuse_monitors, refuse_topology};
 use crate::table::{Command, Kind, MonitorTask, Shape, limit_of};
 use outside::Got;
-use planner::first_hub;
 use rows::{Rows, read_rows};
 use std::alloc::Global;
 use tomo_base::NoMemory;
@@ -33,8 +31,9 @@ pub enum Wants {
 /// A command with all that it reads.
 #[derive(Drop)]
 pub enum Inputs {
-    Plan(Narrow),
+    Plan(Topology),
     Judge(Placed),
+    Paths(Placed),
 }
 
 /// Where the reading ends: with all inputs, or with the row that refuses one.
@@ -75,26 +74,13 @@ pub fn begin(shape: Shape) -> Next
 }
 
 // What a command does with its topology.
-fn with_topology(
-    alloc: Global,
-    command: Command,
-    name: &str,
-    topology: Topology,
-) -> Result<Next, NoMemory>
-    ensures after { IfOk result (λ next. WithTopology command name.now topology next) }
-    ensures fewer { IfOk result (λ next. Fewer (length (files_of command)) next) }
+fn with_topology(command: Command, topology: Topology) -> Next
+    ensures after { result ≡ then_topology command topology }
+    ensures fewer { Fewer (length (files_of command)) result }
 {
     match command {
-        Command::Plan => match first_hub(topology.graph()) {
-            None => Ok(Next::Stop(End::Ready(Inputs::Plan(Narrow { topology })))),
-            Some(hub) => Ok(Next::Stop(End::Refused(refuse(
-                alloc,
-                name,
-                "degree",
-                topology.name(hub),
-            )?))),
-        },
-        Command::WithMonitors(task) => Ok(Next::Ask(Wants::Monitors { task, topology })),
+        Command::Plan => Next::Stop(End::Ready(Inputs::Plan(topology))),
+        Command::WithMonitors(task) => Next::Ask(Wants::Monitors { task, topology }),
     }
 }
 
@@ -110,7 +96,7 @@ fn take_topology(
     ensures fewer { IfOk result (λ next. Fewer (length (files_of command)) next) }
 {
     match read_topology(alloc, rows, header) {
-        Ok(topology) => with_topology(alloc, command, name, topology),
+        Ok(topology) => Ok(with_topology(command, topology)),
         Err(fault) => Ok(Next::Stop(End::Refused(refuse_topology(
             alloc, name, rows, header, fault,
         )?))),
@@ -124,6 +110,7 @@ fn with_monitors(task: MonitorTask, placed: Placed) -> Next
 {
     match task {
         MonitorTask::Judge => Next::Stop(End::Ready(Inputs::Judge(placed))),
+        MonitorTask::Paths => Next::Stop(End::Ready(Inputs::Paths(placed))),
     }
 }
 

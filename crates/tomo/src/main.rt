@@ -7,7 +7,7 @@ mod answer;
 mod gather;
 mod judging;
 mod machine;
-mod narrow;
+mod planning;
 mod placed;
 mod refusal;
 mod run;

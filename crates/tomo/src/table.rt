@@ -15,6 +15,7 @@ pub enum Command {
 #[derive(Clone, Copy, Debug, PartialEq, Eq)]
 pub enum MonitorTask {
     Judge,
+    Paths,
 }
 
 /// What a file holds.
@@ -47,6 +48,7 @@ fn named_command(word: &str) -> Option<Command>
     match word {
         "plan" => Some(Command::Plan),
         "judge" => Some(Command::WithMonitors(MonitorTask::Judge)),
+        "paths" => Some(Command::WithMonitors(MonitorTask::Paths)),
         _ => None,
     }
 }
@@ -57,7 +59,7 @@ fn words_after(command: Command) -> u32
 {
     match command {
         Command::Plan => 1,
-        Command::WithMonitors(MonitorTask::Judge) => 2,
+        Command::WithMonitors(_) => 2,
     }
 }
 

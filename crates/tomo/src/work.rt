@@ -7,10 +7,8 @@ ghost use Rattle.tomo.specs.Answers.{Answers, Ends};
 use crate::answer::Answer;
 use crate::judging::judge_monitors;
 use crate::machine::{End, Inputs};
-use crate::narrow::Narrow;
+use crate::planning::{plan, plan_paths};
 use crate::status::Status;
-use plan_form::plan_rows;
-use planner::make_plan;
 use rows::print_rows;
 use std::alloc::Global;
 use tomo_base::NoMemory;
@@ -22,24 +20,14 @@ pub struct Output {
     pub bytes: Vec<u8>,
 }
 
-// Plans a network.
-fn plan(alloc: Global, narrow: &Narrow) -> Result<Answer, NoMemory>
-    ensures { IfOk result (λ a. Answers (Inputs.Plan narrow.now) a.status a.rows.closed) }
-{
-    let plan = make_plan(alloc, &narrow.topology)?;
-    Ok(Answer {
-        status: Status::Done,
-        rows: plan_rows(alloc, &plan)?,
-    })
-}
-
 // Does a command.
 fn work(alloc: Global, inputs: Inputs) -> Result<Answer, NoMemory>
     ensures { IfOk result (λ a. Answers inputs a.status a.rows.closed) }
 {
     match inputs {
-        Inputs::Plan(narrow) => plan(alloc, &narrow),
+        Inputs::Plan(topology) => plan(alloc, &topology),
         Inputs::Judge(placed) => judge_monitors(alloc, &placed),
+        Inputs::Paths(placed) => plan_paths(alloc, &placed),
     }
 }
 

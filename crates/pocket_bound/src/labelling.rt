@@ -1,5 +1,5 @@
 // Labels of nodes: all nodes of a home pocket have the same one.
-ghost use Rattle.std.specs.Prelude.{◌≡◌, ◌<◌, ◌≤◌, ◌↔◌, ℕ, All, IfOk, OnOk, IsTrue, length, slice_index};
+ghost use Rattle.std.specs.Prelude.{◌≡◌, ◌<◌, ◌≤◌, ◌↔◌, ℕ, All, IfOk, OnOk, OnErr, IsTrue, length, slice_index};
 ghost use Rattle.tomo_base.specs.BadParts.{NoBadPart};
 ghost use Rattle.tomo_base.specs.Search.{mark_of};
 ghost use Rattle.tomo_base.specs.Sets.{has, without, minus, nothing};
@@ -34,7 +34,8 @@ fn join(alloc: Global, labels: &mut [u32], home: &NodeSet, label: u32) -> Result
     requires few { length labels.old ≤ 10000 }
     requires nodes { All (λ v. v < length labels.old) home.now }
     requires new { All (λ l. l < label) labels.old }
-    ensures { OnOk result (AreJoined (length labels.old) (slice_index labels.old) (has home.now) label (slice_index labels.new)) }
+    ensures joined { OnOk result (AreJoined (length labels.old) (slice_index labels.old) (has home.now) label (slice_index labels.new)) }
+    ensures err { OnErr result (labels.new ≡ labels.old) }
 {
     let met = met_labels(alloc, labels, home, label)?;
     for (v, old) in labels.iter_mut().enumerate() {

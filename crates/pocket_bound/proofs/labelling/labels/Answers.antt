@@ -44,4 +44,4 @@ loop-i-preserved c =
     rw (lent_back c.loop-i.labels.len c.join.new.labels c.loop-i.labels.items (omega (arith, size, c.loop-i.labels.ok)))
     (gathered c.args.g.now (has c.args.m.now) nothing xs c.loop-i.i c.loop-i-test.true (subst IsStrictlyIncreasing (sym same) c.as_slice-x-items.ensures.ascending)
     c.loop-i.labels.items c.join.new.labels c.in_ok-home.home c.loop-i.invariant (subst (All (λ v. v < c.args.g.now.nodes)) (sym same) c.requires.nodes c.loop-i.i 0 c.loop-i-test.true) refl
-    c.in_ok-home.ensures.home c.home_pockets_by_labels.ensures.grow size (rw lent at c.in_ok-join.ensures))
+    c.in_ok-home.ensures.home c.home_pockets_by_labels.ensures.grow size (rw lent at c.in_ok-join.ensures.joined))

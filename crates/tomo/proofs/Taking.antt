@@ -5,16 +5,13 @@ use Rattle.std.proofs.lemmas.Bool.{cases_Bool, ltb-true}
 use Rattle.outside.specs.declared.shelf.Got.TheVariants.{Whole}
 use Rattle.rows.specs.Rows.{RowList, rows_of}
 use Rattle.topology.specs.Topology.{Topo}
-use Rattle.planner.specs.Narrow.{IsFirstHub}
-use Rattle.tomo.specs.Machine.{WithTopology, Takes, Steps, StepsBy, kind_of}
+use Rattle.tomo.specs.Machine.{Takes, Steps, StepsBy, kind_of}
 use Rattle.tomo.specs.Table.{limit}
 use Rattle.tomo.proofs.Gathering.{tells-map}
 use Rattle.tomo_base.specs.declared.memory.NoMemory.{NoMemory}
 use Rattle.tomo.specs.declared.machine.Wants.{Wants}
 use Rattle.tomo.specs.declared.machine.Next.{Next}
 use Rattle.tomo.specs.Refusals.{refused}
-use Rattle.tomo.specs.declared.narrow.Narrow.{Narrow}
-use Rattle.tomo.specs.declared.table.Command.TheVariants.{Plan}
 use Rattle.tomo.specs.declared.machine.Inputs.TheVariants as inputs
 use Rattle.tomo.specs.declared.machine.End.TheVariants.{Ready, Refused}
 use Rattle.tomo.specs.declared.machine.Next.TheVariants.{Stop}

@@ -31,6 +31,10 @@ TellsBad t monitors status rows = (status ≡ Negative) × (nodes : List ℕ) ×
 abbrev pub Judges : Topo → List ℕ → Status → List Row → Type 0
 Judges t monitors status rows = ((status ≡ Done) × Identifies t.graph (has monitors) × (rows ≡ yes_row (length monitors) ∷ [])) ⊎ TellsBad t monitors status rows
 
+-- a plan of the topology
+abbrev pub Plans : Topo → Status → List Row → Type 0
+Plans t status rows = (status ≡ Done) × (p : PlanParts) × IsPlanned t.names t.graph p × (rows ≡ plan_rows p)
+
 -- a plan for the monitors, where they identify every link
 abbrev pub PlansFor : Topo → List ℕ → Status → List Row → Type 0
 PlansFor t monitors status rows =
@@ -38,7 +42,7 @@ PlansFor t monitors status rows =
 
 -- the answers of each command
 abbrev pub Answers : Inputs → Status → List Row → Type 0
-Answers (Plan t) status rows = (status ≡ Done) × (p : PlanParts) × IsPlanned t.names t.graph p × (rows ≡ plan_rows p)
+Answers (Plan t) status rows = Plans t status rows
 Answers (Judge p) status rows = Judges p.topology p.monitors status rows
 Answers (Paths p) status rows = PlansFor p.topology p.monitors status rows
 

@@ -1,6 +1,6 @@
 // Plans are made and printed.
 ghost use Rattle.std.specs.Prelude.{IfOk};
-ghost use Rattle.tomo.specs.Answers.{Answers, PlansFor};
+ghost use Rattle.tomo.specs.Answers.{Plans, PlansFor};
 
 use crate::answer::Answer;
 use crate::judging::tell_bad;
@@ -15,7 +15,7 @@ use topology::Topology;
 
 /// Plans a network.
 pub fn plan(alloc: Global, topology: &Topology) -> Result<Answer, NoMemory>
-    ensures { IfOk result (λ a. Answers (Inputs.Plan topology.now) a.status a.rows.closed) }
+    ensures { IfOk result (λ a. Plans topology.now a.status a.rows.closed) }
 {
     let plan = make_plan(alloc, topology)?;
     Ok(Answer {

@@ -1,0 +1,4 @@
+use Rattle.tomo.proofs.planning.plan_paths.Goals as goal
+
+pub judge-requires-clause-connected : goal.judge-requires-clause-connected
+judge-requires-clause-connected c = rw c.graph.ensures.graph c.graph.ensures.topology.connected

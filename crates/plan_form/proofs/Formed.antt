@@ -45,7 +45,7 @@ steps_below g a [] graph steps = λ k d l. absurd (omega (arith, l))
 steps_below g a (b ∷ p) graph steps = All-cons (λ v. v < g.nodes) b p (linked_below g.nodes g.links a b graph steps.0).1 (steps_below g b p graph steps.1)
 
 -- each entry of a monitor path is a node
-nodes_below : (g : Network) (m : ℕ → Bool) (p : List ℕ) → IsGraph g → IsMonitorPath g m p → All (λ v. v < g.nodes) p
+pub nodes_below : (g : Network) (m : ℕ → Bool) (p : List ℕ) → IsGraph g → IsMonitorPath g m p → All (λ v. v < g.nodes) p
 nodes_below g m [] graph path = λ k d l. absurd (omega (arith, l))
 nodes_below g m (a ∷ []) graph path = absurd (omega (arith, path.two))
 nodes_below g m (a ∷ b ∷ p) graph path = All-cons (λ v. v < g.nodes) a (b ∷ p) (linked_below g.nodes g.links a b graph path.linked.0).0 (steps_below g a (b ∷ p) graph path.linked)

@@ -28,7 +28,7 @@ renumbered_each f [] = refl
 renumbered_each f (t ∷ ts) = ap (λ rest. moved f t ∷ rest) (renumbered_each f ts)
 
 -- terms with their paths, one by one
-path_terms_each : (pool : List (List ℕ)) (ts : List Term) → path_terms pool ts ≡ map (λ t. (t.coef, get_or pool t.path [])) ts
+pub path_terms_each : (pool : List (List ℕ)) (ts : List Term) → path_terms pool ts ≡ map (λ t. (t.coef, get_or pool t.path [])) ts
 path_terms_each pool [] = refl
 path_terms_each pool (t ∷ ts) = ap (λ rest. (t.coef, get_or pool t.path []) ∷ rest) (path_terms_each pool ts)
 
@@ -77,16 +77,20 @@ module _ (g : Network) (m : ℕ → Bool) (i : ℕ) (pool paths : List (List ℕ
       let e : ℤ × List ℕ = (pos 0, []) in
       rw (old_at k d l) (subst (λ (x : ℤ × List ℕ). IsCrossCoefficient x.0) (path_at k d e l) (cross.coefficients k e (omega (arith, l, length-path_terms pool ts))))
 
-  -- the merged terms are few, and have small coefficients
+  -- each names a path
+  below : All (λ t. t.path < length paths) old
+  below k d l = let lt : k < length ts = omega (arith, l, size) in rw (old_at k d lt) (rewritten.names k d lt).0
+
+  -- the merged terms are at most four
+  pub stays_few : length new ≤ 4
+  stays_few = omega (arith, merged_few (length paths) old new different rewritten.merged below, cross.few, length-path_terms pool ts, size)
+
+  -- and have small coefficients
   pub stays_short : IsShort new
   stays_short =
-      let some : 1 ≤ length ts = omega (arith, cross.some, length-path_terms pool ts) in
-      let few : length ts ≤ 4 = omega (arith, cross.few, length-path_terms pool ts) in
-      let below : All (λ t. t.path < length paths) old = λ k d l.
-      let lt : k < length ts = omega (arith, l, size) in
-      rw (old_at k d lt) (rewritten.names k d lt).0 in (
+      let some : 1 ≤ length ts = omega (arith, cross.some, length-path_terms pool ts) in (
         merged_some old new no_term different rewritten.merged (omega (arith, some, size)) (cross_coefficient _ (coefficient 0 no_term (omega (arith, some)))).1,
-        omega (arith, merged_few (length paths) old new different rewritten.merged below, few, size),
+        omega (arith, stays_few),
         λ k d l.
             let given = merged_given old new k d different rewritten.merged l in
             rw (← given.3) (cross_coefficient _ (coefficient given.0 d (omega (arith, given.1, size)))).0,

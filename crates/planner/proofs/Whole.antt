@@ -25,6 +25,7 @@ use Rattle.plan_form.specs.Buildable.{as_part}
 use Rattle.plan_form.specs.Good.{AreGoodPaths, IsGoodPocket, AreGoodPockets, AreGoodRecipes, IsGoodRecipe, IsGoodPlan, pocket_sets}
 use Rattle.planner.specs.Measures.{AreMeasures}
 use Rattle.planner.specs.Planned.{IsPlanned, IsPlanFor}
+use Rattle.planner.proofs.Buildable.{stays_few}
 
 -- terms over paths of a list have these paths
 terms_in : (paths : List (List ℕ)) (terms : List Term) → All (λ t. t.path < length paths) terms → All (λ t. Contains paths t.1) (path_terms paths terms)
@@ -85,6 +86,7 @@ pub record IsMade (t : Topo) (m : List ℕ) (pockets : List Pocket) (p : PlanPar
   pub paths : AreGoodPaths t.graph (has m) p.paths
   pub few_paths : length p.paths ≤ 4 * length t.graph.links
   pub recipes : AreGoodRecipes t.graph p.paths p.recipes
+  pub few_terms : (i : ℕ) → i < length p.recipes → length (get_or p.recipes i []) ≤ 4
 
 -- so is what is built of measured links
 pub built_made : {E : Type 0} (t : Topo) (r : Result PlanParts E) (m : List ℕ) (pockets : List Pocket) (pool : List (List ℕ)) (old : List (List Term)) → AreMeasures t.graph (has m) (length t.graph.links) pool old →
@@ -103,6 +105,9 @@ built_made t (Ok p) m pockets pool old measured names links monitors parts built
     one_each = built.one_each ∙ measured.one_each;
     each = λ i l. let lt : i < length old = omega (arith, l, built.one_each) in kept i lt (measured.crosses i lt).recipe;
   };
+  few_terms = λ i l.
+      let lt : i < length old = omega (arith, l, built.one_each) in
+      stays_few t.graph (has m) i pool p.paths (get_or old i []) (get_or p.recipes i []) (measured.crosses i lt) (built.recipes i lt);
 }
 
 -- with good pockets it is a good plan
@@ -159,6 +164,7 @@ all_planned_for t m (Ok p) topo below up made = (
     monitors = made.monitors;
     no_pockets = made.same_pockets;
     few_paths = omega (arith, made.few_paths, ap (λ xs. length xs) made.links);
+    few_terms = made.few_terms;
     identified = good_recipes_identify t.graph p.paths p.recipes made.recipes;
   },
   made_few t m [] p topo made below up (omega arith),

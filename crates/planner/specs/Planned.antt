@@ -1,5 +1,5 @@
 -- What is promised of a plan: it is good, its monitors are the lowest set, its paths determine every link's delay, and its pockets show that no smaller set does.
-use Rattle.std.specs.Prelude.{ℕ, ◌≡◌, ◌*◌, ◌≤◌, Bool, List, [], length}
+use Rattle.std.specs.Prelude.{ℕ, ◌≡◌, ◌*◌, ◌<◌, ◌≤◌, Bool, List, [], length, slice_index_or}
 use Rattle.tomo_base.specs.Network.{Network}
 use Rattle.tomo_base.specs.Sets.{has, size, nothing}
 use Rattle.tomo_base.specs.Identify.{Identified, Identifies}
@@ -30,4 +30,5 @@ pub record IsPlanFor (given : List (List ℕ)) (g : Network) (m : List ℕ) (p :
   pub monitors : p.monitors ≡ m
   pub no_pockets : p.pockets ≡ []
   pub few_paths : length p.paths ≤ 4 * length p.links
+  pub few_terms : (i : ℕ) → i < length p.recipes → length (slice_index_or p.recipes i []) ≤ 4
   pub identified : Identified g p.paths

@@ -3,7 +3,7 @@ use Rattle.std.proofs.Common.{◌≡◌, sym, ℕ, List, Option, Some, None, sub
 use Rattle.std.specs.Prelude.{IfSome, IsSomeAnd}
 use Rattle.outside.specs.Shelf.{Files}
 use Rattle.rows.specs.Rows.{Row, text_of}
-use Rattle.tomo.specs.Table.{shape, file_words}
+use Rattle.tomo.specs.Table.{shape, file_words, last_words}
 use Rattle.tomo.specs.Machine.{start}
 use Rattle.tomo.specs.Answers.{Ends}
 use Rattle.tomo.specs.Run.{RunFrom, IsRun, LeadsTo, AsksOnly, StopsAtRefusal}
@@ -19,6 +19,6 @@ stops_at (Some files) words s old new e asks = subst (λ o. IfSome o (λ s. Asks
 
 -- an end of the reading, and what is answered to it, are a run
 pub run_of : (told : Option Files) (words : List (List ℕ)) (s : Shape) (end : End) (status : Status) (rows : List Row) (output : List ℕ) → shape words ≡ Some s
-    → LeadsTo told (file_words words) (start s) end → Ends end status rows → output ≡ text_of rows → IsRun told words status output
+    → LeadsTo told (file_words words) (start s) end → Ends (last_words words) end status rows → output ≡ text_of rows → IsRun told words status output
 run_of told words s end status rows output e leads ends text =
-    subst (λ o. IsSomeAnd o (λ s. (rows : List Row) × RunFrom told (file_words words) (start s) status rows × (output ≡ text_of rows))) (sym e) (rows, leads status rows ends, text)
+    subst (λ o. IsSomeAnd o (λ s. (rows : List Row) × RunFrom told (last_words words) (file_words words) (start s) status rows × (output ≡ text_of rows))) (sym e) (rows, leads (last_words words) status rows ends, text)

@@ -66,21 +66,21 @@ pub taken_more : (told : Option Files) (names : List (List ℕ)) (first : Next) 
 taken_more told names first turn wants name next below same taken steps = rw add-one (taken-suc told names first turn wants next below taken (rw same at steps))
 
 -- a run that stops here is answered so
-run_stops : (told : Option Files) (names : List (List ℕ)) (end : End) (status : Status) (rows : List Row) → Ends end status rows → RunFrom told names (Stop end) status rows
+run_stops : (told : Option Files) (others names : List (List ℕ)) (end : End) (status : Status) (rows : List Row) → Ends others end status rows → RunFrom told others names (Stop end) status rows
 unfolding RunFrom
-run_stops told [] end status rows ends = ends
-run_stops told (name ∷ names) end status rows ends = ends
+run_stops told others [] end status rows ends = ends
+run_stops told others (name ∷ names) end status rows ends = ends
 
 -- what was taken in leads to the answer of a run
 pub taken_leads : (told : Option Files) (names : List (List ℕ)) (first : Next) (turn : ℕ) (end : End) → Taken told names first turn (Stop end) → LeadsTo told names first end
 unfolding Taken RunFrom
-taken_leads told names first zero end taken status rows ends = subst (λ f. RunFrom told names f status rows) (sym taken) (run_stops told names end status rows ends)
-taken_leads told [] first (suc turn) end taken status rows ends = absurd taken
-taken_leads told (name ∷ names) (Stop other) (suc turn) end taken status rows ends = absurd taken
-taken_leads told (name ∷ names) (Ask wants) (suc turn) end taken status rows ends =
+taken_leads told names first zero end taken others status rows ends = subst (λ f. RunFrom told others names f status rows) (sym taken) (run_stops told others names end status rows ends)
+taken_leads told [] first (suc turn) end taken others status rows ends = absurd taken
+taken_leads told (name ∷ names) (Stop other) (suc turn) end taken others status rows ends = absurd taken
+taken_leads told (name ∷ names) (Ask wants) (suc turn) end taken others status rows ends =
     let P : List ℕ → Type 0 = λ content. (mid : Next) × Steps wants name content mid × Taken told names mid turn (Stop end) in
-    let Q : List ℕ → Type 0 = λ content. (next : Next) × Steps wants name content next × RunFrom told names next status rows in
-    tells-map told name P Q (λ content h. (h.0, h.1, taken_leads told names h.0 turn end h.2 status rows ends)) taken
+    let Q : List ℕ → Type 0 = λ content. (next : Next) × Steps wants name content next × RunFrom told others names next status rows in
+    tells-map told name P Q (λ content h. (h.0, h.1, taken_leads told names h.0 turn end h.2 others status rows ends)) taken
 
 -- ---- what was asked for
 

@@ -4,3 +4,4 @@ pub mod Gathering
 pub mod Ending
 pub mod Taking
 pub mod Naming
+pub mod TermRows

@@ -1,20 +1,15 @@
 -- What taking in a file leads to, by what was read of it.
-use Rattle.std.proofs.Common.{◌≡◌, ℕ, zero, suc, List, [], ◌∷◌, get_or, slice_get, Some, None, ◌≤◌, length, nat_lt, Result, Ok, Err, sym, ap, ◌∙◌, refl, inl, inr, subst, arith}
-use Rattle.std.specs.Prelude.{codes, IfOk}
+use Rattle.std.proofs.Common.{◌≡◌, ℕ, zero, suc, List, [], ◌∷◌, get_or, slice_get, Some, None, ◌≤◌, length, nat_lt, Result, Ok, Err, inl, inr, subst, arith}
+use Rattle.std.specs.Prelude.{IfOk}
 use Rattle.std.proofs.lemmas.Bool.{cases_Bool, ltb-true}
 use Rattle.outside.specs.declared.shelf.Got.TheVariants.{Whole}
-use Rattle.rows.specs.Rows.{RowList, rows_of}
-use Rattle.topology.specs.Topology.{Topo}
+use Rattle.rows.specs.Rows.{rows_of}
 use Rattle.tomo.specs.Machine.{Takes, Steps, StepsBy, kind_of}
 use Rattle.tomo.specs.Table.{limit}
 use Rattle.tomo.proofs.Gathering.{tells-map}
 use Rattle.tomo_base.specs.declared.memory.NoMemory.{NoMemory}
 use Rattle.tomo.specs.declared.machine.Wants.{Wants}
 use Rattle.tomo.specs.declared.machine.Next.{Next}
-use Rattle.tomo.specs.Refusals.{refused}
-use Rattle.tomo.specs.declared.machine.Inputs.TheVariants as inputs
-use Rattle.tomo.specs.declared.machine.End.TheVariants.{Ready, Refused}
-use Rattle.tomo.specs.declared.machine.Next.TheVariants.{Stop}
 
 -- what stands at a place
 pub some_at : (xs : List (List ℕ)) (i : ℕ) (x : List ℕ) → slice_get xs i ≡ Some x → get_or xs i [] ≡ x

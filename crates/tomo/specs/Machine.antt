@@ -1,5 +1,5 @@
 -- How one file after the other is taken in.
-use Rattle.std.specs.Prelude.{ℕ, ◌≡◌, ◌≢◌, ◌+◌, ◌<◌, ◌⊎◌, [], List, length, codes, decimal, Bool, Option, nat_lt, slice_index_or, Ok, MatchBool}
+use Rattle.std.specs.Prelude.{ℕ, ◌≡◌, ◌≢◌, ◌+◌, ◌<◌, ◌⊎◌, List, length, codes, decimal, Bool, Option, nat_lt, Ok, MatchBool}
 use Rattle.outside.specs.Shelf.{Files, Gives, Tells}
 use Rattle.outside.specs.declared.shelf.Got.{Got}
 use Rattle.rows.specs.Rows.{Row, rows_of}
@@ -15,7 +15,7 @@ use Rattle.tomo.specs.Refusals.{refused, topology_reason, topology_place, monito
 use Rattle.tomo.specs.declared.table.Command.{Command}
 use Rattle.tomo.specs.declared.table.Command.TheVariants.{Plan, WithMonitors}
 use Rattle.tomo.specs.declared.table.MonitorTask.{MonitorTask}
-use Rattle.tomo.specs.declared.table.MonitorTask.TheVariants.{Judge, Paths}
+use Rattle.tomo.specs.declared.table.MonitorTask.TheVariants.{Judge, Paths, Link}
 use Rattle.tomo.specs.declared.table.Kind.{Kind}
 use Rattle.tomo.specs.declared.table.Kind.TheVariants.{TopologyFile, MonitorFile}
 use Rattle.tomo.specs.declared.table.Shape.{Shape}
@@ -63,6 +63,7 @@ TakesTopology command header name rows next =
 abbrev pub with_monitors : MonitorTask → Placed → Next
 with_monitors Judge p = Stop (Ready (inputs.Judge p))
 with_monitors Paths p = Stop (Ready (inputs.Paths p))
+with_monitors Link p = Stop (Ready (inputs.Link p))
 
 -- what the rows of a monitor file do: they name nodes, or are refused at the first that names none
 abbrev pub TakesMonitors : MonitorTask → Topo → List ℕ → List Row → Next → Type 0

@@ -4,7 +4,7 @@ use Rattle.std.specs.FinMap.{get}
 use Rattle.std.specs.Io.KnownBytes.{Appends, Keeps}
 use Rattle.outside.specs.Shelf.{Files, Tells, KnowsName}
 use Rattle.rows.specs.Rows.{Row, text_of}
-use Rattle.tomo.specs.Table.{shape, file_words}
+use Rattle.tomo.specs.Table.{shape, file_words, last_words}
 use Rattle.tomo.specs.Machine.{start, Steps}
 use Rattle.tomo.specs.Answers.{Ends}
 use Rattle.tomo.specs.declared.status.Status.{Status}
@@ -14,17 +14,17 @@ use Rattle.tomo.specs.declared.machine.End.TheVariants.{Ready, Refused}
 use Rattle.tomo.specs.declared.machine.Next.{Next}
 use Rattle.tomo.specs.declared.machine.Next.TheVariants.{Ask, Stop}
 
--- the files of these names, taken in one after the other, lead from here to this answer
-unfoldable pub RunFrom : Option Files → List (List ℕ) → Next → Status → List Row → Type 0
-RunFrom told [] (Ask wants) status rows = ⊥
-RunFrom told [] (Stop end) status rows = Ends end status rows
-RunFrom told (name ∷ names) (Ask wants) status rows = Tells told name (λ content. (next : Next) × Steps wants name content next × RunFrom told names next status rows)
-RunFrom told (name ∷ names) (Stop end) status rows = Ends end status rows
+-- the files of these names, taken in one after the other, lead from here to this answer, for these other words
+unfoldable pub RunFrom : Option Files → List (List ℕ) → List (List ℕ) → Next → Status → List Row → Type 0
+RunFrom told others [] (Ask wants) status rows = ⊥
+RunFrom told others [] (Stop end) status rows = Ends others end status rows
+RunFrom told others (name ∷ names) (Ask wants) status rows = Tells told name (λ content. (next : Next) × Steps wants name content next × RunFrom told others names next status rows)
+RunFrom told others (name ∷ names) (Stop end) status rows = Ends others end status rows
 
 -- the status and the output are those of a run
 abbrev pub IsRun : Option Files → List (List ℕ) → Status → List ℕ → Type 0
 IsRun told words status output =
-    IsSomeAnd (shape words) (λ shape. (rows : List Row) × RunFrom told (file_words words) (start shape) status rows × (output ≡ text_of rows))
+    IsSomeAnd (shape words) (λ shape. (rows : List Row) × RunFrom told (last_words words) (file_words words) (start shape) status rows × (output ≡ text_of rows))
 
 -- these names are asked for from here on: each but the first only where the file before it was taken in, and not refused
 unfoldable pub AsksFrom : Files → List (List ℕ) → Next → List (List ℕ) → Type 0
@@ -53,7 +53,7 @@ KnowsAll told (name ∷ names) = KnowsName told name × KnowsAll told names
 
 -- the end is that of the run
 abbrev pub LeadsTo : Option Files → List (List ℕ) → Next → End → Type 0
-LeadsTo told names first end = (status : Status) → (rows : List Row) → Ends end status rows → RunFrom told names first status rows
+LeadsTo told names first end = (others : List (List ℕ)) (status : Status) (rows : List Row) → Ends others end status rows → RunFrom told others names first status rows
 
 -- where nothing was refused, all the names were asked for
 abbrev pub AsksAll : List (List ℕ) → List (List ℕ) → List (List ℕ) → End → Type 0

@@ -4,7 +4,7 @@ use Rattle.std.specs.List.{starts_with}
 use Rattle.std.specs.Str.{bytes_eq}
 use Rattle.tomo.specs.declared.table.Command.{Command}
 use Rattle.tomo.specs.declared.table.Command.TheVariants.{Plan, WithMonitors}
-use Rattle.tomo.specs.declared.table.MonitorTask.TheVariants.{Judge, Paths}
+use Rattle.tomo.specs.declared.table.MonitorTask.TheVariants.{Judge, Paths, Link}
 use Rattle.tomo.specs.declared.table.Kind.{Kind}
 use Rattle.tomo.specs.declared.table.Kind.TheVariants.{TopologyFile, MonitorFile}
 use Rattle.tomo.specs.declared.table.Shape.{Shape}
@@ -19,7 +19,8 @@ abbrev pub command_of : List ℕ → Option Command
 command_of word =
     if bytes_eq word (codes "plan") then Some Plan else
     (if bytes_eq word (codes "judge") then Some (WithMonitors Judge) else
-    (if bytes_eq word (codes "paths") then Some (WithMonitors Paths) else None))
+    (if bytes_eq word (codes "paths") then Some (WithMonitors Paths) else
+    (if bytes_eq word (codes "link") then Some (WithMonitors Link) else None)))
 
 -- the files of each command, in the order in which they are asked for
 abbrev pub files_of : Command → List Kind
@@ -29,7 +30,9 @@ files_of (WithMonitors task) = TopologyFile ∷ MonitorFile ∷ []
 -- how many words a command takes after its files
 abbrev pub other_words : Command → ℕ
 other_words Plan = 0
-other_words (WithMonitors task) = 0
+other_words (WithMonitors Judge) = 0
+other_words (WithMonitors Paths) = 0
+other_words (WithMonitors Link) = 2
 
 -- how many words a command takes in all after its own and the option
 abbrev pub word_count : Command → ℕ
@@ -80,3 +83,16 @@ named words (Some shape) = names_of shape words
 -- the words that name files, in their order
 abbrev pub file_words : List (List ℕ) → List (List ℕ)
 file_words words = named words (shape words)
+
+-- the words after the files of a shape
+abbrev pub rest_of : Shape → List (List ℕ) → List (List ℕ)
+rest_of shape words = drop (length (files_of shape.command)) (drop (first_place shape.header) words)
+
+-- the words after the files, where there is a shape
+abbrev pub rest : List (List ℕ) → Option Shape → List (List ℕ)
+rest words None = []
+rest words (Some shape) = rest_of shape words
+
+-- the words after those that name files
+abbrev pub last_words : List (List ℕ) → List (List ℕ)
+last_words words = rest words (shape words)

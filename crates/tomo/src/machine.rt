@@ -34,6 +34,7 @@ pub enum Inputs {
     Plan(Topology),
     Judge(Placed),
     Paths(Placed),
+    Link(Placed),
 }
 
 /// Where the reading ends: with all inputs, or with the row that refuses one.
@@ -111,6 +112,7 @@ fn with_monitors(task: MonitorTask, placed: Placed) -> Next
     match task {
         MonitorTask::Judge => Next::Stop(End::Ready(Inputs::Judge(placed))),
         MonitorTask::Paths => Next::Stop(End::Ready(Inputs::Paths(placed))),
+        MonitorTask::Link => Next::Stop(End::Ready(Inputs::Link(placed))),
     }
 }
 

@@ -6,6 +6,7 @@ ghost use Rattle.std.specs.Prelude.{◌≡◌};
 mod answer;
 mod gather;
 mod judging;
+mod linking;
 mod machine;
 mod placed;
 mod planning;

@@ -11,7 +11,7 @@ use tomo_base::NoMemory;
 use topology::{MonFault, TopoFault, nth_name};
 
 /// The row that refuses a word for a reason, at a place.
-fn refuse(alloc: Global, word: &str, reason: &str, place: &str) -> Result<Rows, NoMemory>
+pub fn refuse(alloc: Global, word: &str, reason: &str, place: &str) -> Result<Rows, NoMemory>
     ensures { IfOk result (λ rows. rows ≡ refused word.now reason.now place.now) }
 {
     let mut rows = Rows::new(alloc);

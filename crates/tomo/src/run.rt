@@ -43,7 +43,7 @@ pub fn tomo<S: Shelf, K: Sink>(alloc: Global, words: &Words, shelf: &mut S, sink
         Err(ShelfFault::NoMemory) => return Status::NoMemory,
         Err(ShelfFault::Failed) => return Status::ReadFault,
     };
-    let output = match output_of(alloc, end) {
+    let output = match output_of(alloc, words, shape, end) {
         Ok(output) => output,
         Err(_) => return Status::NoMemory,
     };

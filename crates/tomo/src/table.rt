@@ -1,6 +1,6 @@
 // The table of commands: the words that each takes, and the shape of a command line.
-ghost use Rattle.std.specs.Prelude.{◌≡◌, ◌≤◌, length, drop, Option};
-ghost use Rattle.tomo.specs.Table.{command_of, word_count, first_place, begins_option, no_options, shape, limit};
+ghost use Rattle.std.specs.Prelude.{◌≡◌, ◌≤◌, [], length, drop, Option, Some, slice_index_or};
+ghost use Rattle.tomo.specs.Table.{command_of, files_of, word_count, first_place, begins_option, no_options, shape, shape as shape_in, last_words, limit};
 
 use tomo_base::Words;
 
@@ -16,6 +16,7 @@ pub enum Command {
 pub enum MonitorTask {
     Judge,
     Paths,
+    Link,
 }
 
 /// What a file holds.
@@ -49,7 +50,18 @@ fn named_command(word: &str) -> Option<Command>
         "plan" => Some(Command::Plan),
         "judge" => Some(Command::WithMonitors(MonitorTask::Judge)),
         "paths" => Some(Command::WithMonitors(MonitorTask::Paths)),
+        "link" => Some(Command::WithMonitors(MonitorTask::Link)),
         _ => None,
+    }
+}
+
+// How many files a command reads.
+fn file_count(command: Command) -> u32
+    ensures { result ≡ length (files_of command) }
+{
+    match command {
+        Command::Plan => 1,
+        Command::WithMonitors(_) => 2,
     }
 }
 
@@ -59,7 +71,8 @@ fn words_after(command: Command) -> u32
 {
     match command {
         Command::Plan => 1,
-        Command::WithMonitors(_) => 2,
+        Command::WithMonitors(MonitorTask::Judge | MonitorTask::Paths) => 2,
+        Command::WithMonitors(MonitorTask::Link) => 4,
     }
 }
 
@@ -110,5 +123,19 @@ pub fn shape_of(words: &Words) -> Option<Shape>
         Some(shape)
     } else {
         None
+    }
+}
+
+/// One of the words after those that name files, by its number from 0; the empty word where there is none.
+pub fn last_word(words: &Words, shape: Shape, number: u32) -> &str
+    requires shape { shape_in words.now ≡ Some shape }
+    requires number { number ≤ 1 }
+    ensures { result.now ≡ slice_index_or (last_words words.now) number [] }
+{
+    let place = shape.first() + file_count(shape.command) + number;
+    if place < words.len() {
+        words.at(place)
+    } else {
+        ""
     }
 }

@@ -7,3 +7,9 @@ pub mod Tallies
 pub mod Built
 pub mod Formed
 pub mod Copying
+pub mod Records
+pub mod Decimals
+pub mod Cutting
+pub mod Joined
+pub mod Texts
+pub mod Items

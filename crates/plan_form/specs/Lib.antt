@@ -7,3 +7,6 @@ pub mod Good
 pub mod Held
 pub mod Buildable
 pub mod Steps
+pub mod Kinds
+pub mod Values
+pub mod Reading

@@ -4,10 +4,15 @@
 mod build;
 mod copies;
 mod directions;
+mod faults;
+mod kinds;
+mod lists;
+mod numerals;
 mod order;
 mod plan;
 mod sums;
 mod write;
 
+pub use faults::PlanFault;
 pub use plan::Plan;
 pub use write::plan_rows;

@@ -13,3 +13,9 @@ pub mod Cutting
 pub mod Joined
 pub mod Texts
 pub mod Items
+pub mod Walking
+pub mod Ordered
+pub mod Blocks
+pub mod Printed
+pub mod Distinct
+pub mod OneFault

@@ -10,3 +10,4 @@ pub mod Steps
 pub mod Kinds
 pub mod Values
 pub mod Reading
+pub mod Laws

@@ -6,6 +6,7 @@ mod copies;
 mod directions;
 mod faults;
 mod kinds;
+pub mod laws;
 mod lists;
 mod numerals;
 mod order;

@@ -19,3 +19,8 @@ pub mod Blocks
 pub mod Printed
 pub mod Distinct
 pub mod OneFault
+pub mod Spelled
+pub mod Taken
+pub mod KindRows
+pub mod Growing
+pub mod Bytes

@@ -6,7 +6,7 @@ use Rattle.plan_form.specs.PlanRows.{numbered, AddsRows, plan_rows, row_count}
 use Rattle.plan_form.specs.Parts.{PlanParts}
 
 -- a row more at the end has the next number
-numbered-push : {A : Type 0} (f : ℕ → A → Row) (i : ℕ) (xs : List A) (x : A) → numbered f i (xs ++ x ∷ []) ≡ numbered f i xs ++ f (i + length xs) x ∷ []
+pub numbered-push : {A : Type 0} (f : ℕ → A → Row) (i : ℕ) (xs : List A) (x : A) → numbered f i (xs ++ x ∷ []) ≡ numbered f i xs ++ f (i + length xs) x ∷ []
 unfolding numbered
 numbered-push f i [] x = (let e : i + 0 ≡ i = omega arith in rw e refl)
 numbered-push f i (y ∷ ys) x =

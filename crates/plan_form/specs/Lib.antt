@@ -11,3 +11,4 @@ pub mod Kinds
 pub mod Values
 pub mod Reading
 pub mod Laws
+pub mod Taking

@@ -85,8 +85,8 @@ pub(crate) fn kind_of(rows: &Rows, row: u32) -> Option<Kind>
     }
 }
 
-// Whether a row of a kind may follow one of the kind `last`.
-fn may_follow(last: Option<Kind>, kind: Kind) -> bool
+/// Whether a row of a kind may follow one of the kind `last`.
+pub(crate) fn may_follow(last: Option<Kind>, kind: Kind) -> bool
     ensures { result ≡ reading.may_follow last kind }
 {
     match last {

@@ -11,6 +11,7 @@ mod lists;
 mod numerals;
 mod order;
 mod plan;
+mod read;
 mod sums;
 mod write;
 

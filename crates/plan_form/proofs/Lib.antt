@@ -24,3 +24,5 @@ pub mod Taken
 pub mod KindRows
 pub mod Growing
 pub mod Bytes
+pub mod Reader
+pub mod Ending

@@ -94,3 +94,10 @@ pub(crate) fn may_follow(last: Option<Kind>, kind: Kind) -> bool
         Some(last) => kind != Kind::Plan && last <= kind,
     }
 }
+
+/// Whether the kind `last` is that of the end row.
+pub(crate) fn is_end(last: Option<Kind>) -> bool
+    ensures { result ≡ reading.is_kind last Kind.End }
+{
+    last == Some(Kind::End)
+}

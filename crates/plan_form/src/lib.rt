@@ -17,4 +17,5 @@ mod write;
 
 pub use faults::PlanFault;
 pub use plan::Plan;
+pub use read::read_plan;
 pub use write::plan_rows;

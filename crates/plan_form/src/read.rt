@@ -11,7 +11,7 @@ ghost use Rattle.plan_form.specs.Taking.{no_parts, HasRoom, Takes, RefusesRow, I
 ghost use Rattle.plan_form.specs.Values.{Spells};
 
 use crate::faults::PlanFault;
-use crate::kinds::{Kind, kind_of, may_follow};
+use crate::kinds::{Kind, is_end, kind_of, may_follow};
 use crate::lists::{read_nodes, read_terms};
 use crate::numerals::number;
 use crate::plan::{HeldPocket, Plan};
@@ -29,7 +29,7 @@ fn next_kind(rows: &Rows, row: u32, last: Option<Kind>) -> Result<Kind, PlanFaul
     ensures kind { IfOk result (IsNextKind 1 last (row_at rows.now.closed row)) }
     ensures fault { IfErr result (RefusesKind 1 last (row + 1) (row_at rows.now.closed row)) }
 {
-    if matches!(last, Some(Kind::End)) {
+    if is_end(last) {
         return Err(PlanFault::After(row + 1));
     }
     let Some(kind) = kind_of(rows, row) else {
@@ -191,4 +191,60 @@ impl Plan {
         }
         Ok(())
     }
+
+    // Adds what a row of a kind says; `nodes` is room for a list of nodes.
+    fn add_row(
+        &mut self,
+        alloc: Global,
+        rows: &Rows,
+        row: u32,
+        kind: Kind,
+        nodes: &mut Vec<u32>,
+    ) -> Result<(), PlanFault>
+        requires row { row < length rows.now.closed }
+        requires number { row + 1 < 2 ^ 32 }
+        requires kind { spec.kind_of 1 (row_at rows.now.closed row) ≡ Some kind }
+        requires room { HasRoom 1 (row_at rows.now.closed row) self.old }
+        ensures takes { OnOk result (Takes 1 kind (row_at rows.now.closed row) self.old self.new) }
+        ensures refuses { IfErr result (RefusesRow 1 kind (length (rows_of_kind 1 self.old kind)) (row + 1) (row_at rows.now.closed row)) }
+    {
+        match kind {
+            Kind::Plan => Ok(()),
+            Kind::Node => self.add_name(rows, row),
+            Kind::Link => self.add_link(rows, row),
+            Kind::Monitor => self.add_monitor(rows, row),
+            Kind::Pocket => self.add_pocket(alloc, rows, row, nodes),
+            Kind::Path => self.add_path(rows, row, nodes),
+            Kind::Recipe => self.add_recipe(alloc, rows, row),
+            Kind::End => Ok(()),
+        }
+    }
+}
+
+/// Reads the plan that rows are, row after row.
+///
+/// The rows are those of the table of kinds, in its order, each spelled as `plan_rows` spells it: a plan has one spelling, so the
+/// rows of the plan that is answered are these. The parts of the plan are otherwise unchecked: a link may join any two numbers.
+///
+/// The fault of the first row that has one is answered, and in one row the first that applies of `After`, `Record`, `Order` for a
+/// kind that may not stand there, `Number`, and `Order` for a row's own number. `Missing` comes where no row has a fault. The rows
+/// are read once, in time linear in their bytes.
+pub fn read_plan(alloc: Global, rows: &Rows) -> Result<Plan, PlanFault>
+    requires { byte_count rows.now.closed < 2 ^ 31 }
+    ensures read { IfOk result (λ p. rows.now.closed ≡ plan_rows p) }
+    ensures formed { IfOk result IsWellFormed }
+    ensures fault { IfErr result (IsFirstPlanFault rows.now.closed) }
+{
+    let mut plan = Plan::empty(alloc);
+    let mut nodes = Vec::new(alloc);
+    let mut last = None;
+    for row in 0..rows.len() {
+        let kind = next_kind(rows, row, last)?;
+        plan.add_row(alloc, rows, row, kind, &mut nodes)?;
+        last = Some(kind);
+    }
+    if !is_end(last) {
+        return Err(PlanFault::Missing(rows.len()));
+    }
+    Ok(plan)
 }

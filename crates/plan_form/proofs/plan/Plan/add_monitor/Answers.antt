@@ -1,4 +1,4 @@
-use Rattle.std.proofs.Common.{◌≡◌, ◌∙◌, arith, refl, sym, length, rules}
+use Rattle.std.proofs.Common.{arith}
 use Rattle.topology.specs.Names.{row_at}
 use Rattle.plan_form.specs.declared.kinds.Kind.TheVariants as kinds
 use Rattle.plan_form.specs.contracts.plan.Plan.{the_view}

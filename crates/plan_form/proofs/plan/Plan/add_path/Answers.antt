@@ -2,7 +2,7 @@ use Rattle.std.proofs.Common.{◌≡◌, ◌∙◌, arith, refl, sym, length, ru
 use Rattle.topology.specs.Names.{row_at}
 use Rattle.plan_form.specs.declared.kinds.Kind.TheVariants as kinds
 use Rattle.plan_form.specs.contracts.plan.Plan.{the_view}
-use Rattle.std.proofs.Common.{Some, None, ◌+◌, ◌<◌, ◌≤◌, ◌^◌}
+use Rattle.std.proofs.Common.{Some, None, ◌+◌, ◌<◌, ◌^◌}
 use Rattle.rows.specs.Rows.{row_bytes, byte_count}
 use Rattle.plan_form.specs.Kinds.{field}
 use Rattle.plan_form.specs.Parts.{IsNodeList}

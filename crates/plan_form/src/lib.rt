@@ -19,3 +19,6 @@ pub use faults::PlanFault;
 pub use plan::Plan;
 pub use read::read_plan;
 pub use write::plan_rows;
+
+#[cfg(test)]
+mod tests;

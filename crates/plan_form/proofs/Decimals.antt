@@ -57,12 +57,18 @@ decimal_is_number n lt =
 pub spelled : (text : List ℕ) → IsDigits text → (get_or text 0 0 ≡ 48 → length text ≡ 1) → digits_value 10 text < 2 ^ 32 → text ≡ decimal (digits_value 10 text)
 spelled text is first lt = sym (decimal-digits_value plain text is.digits is.some first (omega (arith, lt)))
 
--- a text is the spelling of its digits' value, where that is a number of 32 bits
-pub number_of_digits : {E : Type 0} (text : List ℕ) (v : ℕ) (r : Result ℕ E) → DigitsOf text (Some v) → (get_or text 0 0 ≡ 48 → length text ≡ 1) → OkIff r (v < 2 ^ 32) v → Spells IsSmall decimal text (result_ok r)
-number_of_digits text v (Ok n) is first fits =
+-- a text is the spelling of its digits' value, where that is a number of 32 bits and no zero stands in front of others
+pub number_of_digits : {E : Type 0} (text : List ℕ) (v : ℕ) (r : Result ℕ E) → DigitsOf text (Some v) → ((1 < length text) × (get_or text 0 0 ≡ 48) → ⊥) → OkIff r (v < 2 ^ 32) v → Spells IsSmall decimal text (result_ok r)
+number_of_digits text v (Ok n) is bare fits =
     let small : n < 2 ^ 32 = rw fits.1 fits.0 in
-    (small, spelled text is.0 first (omega (arith, is.1, fits.0)) ∙ ap decimal (sym is.1 ∙ sym fits.1))
-number_of_digits text v (Err e) is first large = λ n lt same. large (omega (arith, is.1, lt, ap (digits_value 10) same, (decimal_is_number n lt).value))
+    (small, spelled text is.0 alone (omega (arith, is.1, fits.0)) ∙ ap decimal (sym is.1 ∙ sym fits.1))
+  where
+    alone : get_or text 0 0 ≡ 48 → length text ≡ 1
+    alone zero = elim (cases_lt 1 (length text)) [
+      | inl long ↦ absurd (bare (long, zero))
+      | inr short ↦ let some = is.0.some in omega (arith, short, some)
+    ]
+number_of_digits text v (Err e) is bare large = λ n lt same. large (omega (arith, is.1, lt, ap (digits_value 10) same, (decimal_is_number n lt).value))
 
 -- a text with other bytes spells no number
 pub no_digits : (text : List ℕ) → DigitsOf text None → Spells IsSmall decimal text None

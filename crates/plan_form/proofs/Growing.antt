@@ -3,14 +3,14 @@ use Rattle.std.proofs.Common.{ℕ, ◌+◌, ◌<◌, ◌^◌, List, [], ◌∷�
 use Rattle.std.proofs.lemmas.List.Elements.{All-push}
 use Rattle.topology.specs.Names.{is_name}
 use Rattle.simple_path.specs.declared.recipe.Term.{Term}
-use Rattle.plan_form.specs.Parts.{PlanPocket, PlanParts, IsSmall, IsNodeList, IsTermList, IsWellFormed}
+use Rattle.plan_form.specs.Parts.{PlanPocket, PlanParts, IsNodeList, IsTermList, IsWellFormed, IsName, IsSmallPocket}
 
 few : {A : Type 0} (xs : List A) (x : A) (n : ℕ) → length xs + 1 < n → length (xs ++ x ∷ []) < n
 few xs x n l = omega (arith, length-append xs (x ∷ []), l)
 
 pub more_names : (p : PlanParts) (x : List ℕ) → IsWellFormed p → IsTrue (is_name x) → length p.names + 1 < 2 ^ 32 → IsWellFormed (record p { names = p.names ++ x ∷ [] })
 more_names p x w fits room = record {
-  names = All-push (λ n. IsTrue (is_name n)) p.names x w.names fits;
+  names = All-push IsName p.names x w.names fits;
   links = w.links;
   monitors = w.monitors;
   pockets = w.pockets;
@@ -23,12 +23,12 @@ more_names p x w fits room = record {
   few_recipes = w.few_recipes;
 }
 
-pub more_pockets : (p : PlanParts) (x : PlanPocket) → IsWellFormed p → IsSmall x.need × IsNodeList x.nodes → length p.pockets + 1 < 2 ^ 32 → IsWellFormed (record p { pockets = p.pockets ++ x ∷ [] })
+pub more_pockets : (p : PlanParts) (x : PlanPocket) → IsWellFormed p → IsSmallPocket x → length p.pockets + 1 < 2 ^ 32 → IsWellFormed (record p { pockets = p.pockets ++ x ∷ [] })
 more_pockets p x w fits room = record {
   names = w.names;
   links = w.links;
   monitors = w.monitors;
-  pockets = All-push (λ k. IsSmall k.need × IsNodeList k.nodes) p.pockets x w.pockets fits;
+  pockets = All-push IsSmallPocket p.pockets x w.pockets fits;
   paths = w.paths;
   recipes = w.recipes;
   few_names = w.few_names;

@@ -10,7 +10,7 @@ use Rattle.simple_path.specs.declared.recipe.Term.{Term}
 use Rattle.plan_form.specs.declared.kinds.Kind.{Kind}
 use Rattle.plan_form.specs.declared.kinds.Kind.TheVariants as kinds
 use Rattle.plan_form.specs.Kinds.{field, kind_of}
-use Rattle.plan_form.specs.Parts.{PlanPocket, IsSmall, IsNodeList, IsTermList}
+use Rattle.plan_form.specs.Parts.{PlanPocket, IsSmall, IsNodeList, IsTermList, IsSmallLink, IsSmallPocket}
 use Rattle.plan_form.specs.PlanRows.{plan_row, node_row, link_row, monitor_row, pocket_row, path_row, recipe_row, end_row}
 use Rattle.plan_form.specs.Reading.{IsRow}
 use Rattle.plan_form.specs.Spelling.{numbers_text, terms_text}
@@ -82,11 +82,11 @@ link_is format row n l kind number a b =
 
 pub link_without_first : (format : ℕ) (row : Row) → Spells IsSmall decimal (field row 2) None → (i : ℕ) → IsRow format kinds.Link i row → ⊥
 unfolding IsRow
-link_without_first format row = unspelled (λ (l : Link). IsSmall l.a × IsSmall l.b) link_row 2 IsSmall decimal (λ i l. l.a) (λ i l small fits. (fits.0, refl)) row
+link_without_first format row = unspelled IsSmallLink link_row 2 IsSmall decimal (λ i l. l.a) (λ i l small fits. (fits.0, refl)) row
 
 pub link_without_second : (format : ℕ) (row : Row) → Spells IsSmall decimal (field row 3) None → (i : ℕ) → IsRow format kinds.Link i row → ⊥
 unfolding IsRow
-link_without_second format row = unspelled (λ (l : Link). IsSmall l.a × IsSmall l.b) link_row 3 IsSmall decimal (λ i l. l.b) (λ i l small fits. (fits.1, refl)) row
+link_without_second format row = unspelled IsSmallLink link_row 3 IsSmall decimal (λ i l. l.b) (λ i l small fits. (fits.1, refl)) row
 
 -- a monitor row
 pub monitor_is : (format : ℕ) (row : Row) (v : ℕ) → kind_of format row ≡ Some kinds.Monitor → Spells IsSmall decimal (field row 1) (Some v) → row ≡ monitor_row v
@@ -106,11 +106,11 @@ pocket_is format row n p kind number need nodes =
 
 pub pocket_without_need : (format : ℕ) (row : Row) → Spells IsSmall decimal (field row 2) None → (i : ℕ) → IsRow format kinds.Pocket i row → ⊥
 unfolding IsRow
-pocket_without_need format row = unspelled (λ (p : PlanPocket). IsSmall p.need × IsNodeList p.nodes) pocket_row 2 IsSmall decimal (λ i p. p.need) (λ i p small fits. (fits.0, refl)) row
+pocket_without_need format row = unspelled IsSmallPocket pocket_row 2 IsSmall decimal (λ i p. p.need) (λ i p small fits. (fits.0, refl)) row
 
 pub pocket_without_nodes : (format : ℕ) (row : Row) → Spells IsNodeList numbers_text (field row 3) None → (i : ℕ) → IsRow format kinds.Pocket i row → ⊥
 unfolding IsRow
-pocket_without_nodes format row = unspelled (λ (p : PlanPocket). IsSmall p.need × IsNodeList p.nodes) pocket_row 3 IsNodeList numbers_text (λ i p. p.nodes) (λ i p small fits. (fits.1, refl)) row
+pocket_without_nodes format row = unspelled IsSmallPocket pocket_row 3 IsNodeList numbers_text (λ i p. p.nodes) (λ i p small fits. (fits.1, refl)) row
 
 -- a path row
 pub path_is : (format : ℕ) (row : Row) (n : ℕ) (nodes : List ℕ) → kind_of format row ≡ Some kinds.Path → Spells IsSmall decimal (field row 1) (Some n) → Spells IsNodeList numbers_text (field row 2) (Some nodes) → IsRow format kinds.Path n row × (row ≡ path_row n nodes)

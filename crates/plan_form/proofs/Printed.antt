@@ -1,16 +1,15 @@
 -- The rows of a plan have no fault.
-use Rattle.std.proofs.Common.{inl, inr, ◌≡◌, ◌^◌, sym, ℕ, ◌+◌, ◌<◌, ◌≤◌, List, [], ◌∷◌, length, Some, refl, ap, subst, ◌∙◌, arith, IsTrue, All}
+use Rattle.std.proofs.Common.{inl, inr, ◌≡◌, ◌^◌, sym, ℕ, ◌+◌, ◌<◌, ◌≤◌, List, [], ◌∷◌, length, Some, refl, ap, subst, ◌∙◌, arith, All}
 use Rattle.std.proofs.lemmas.List.Elements.{All-head, All-tail}
 use Rattle.std.proofs.lemmas.Slice.Eq.{bytes_eq-Decides}
 use Rattle.std.specs.Fmt.{decimal}
 use Rattle.rows.specs.Rows.{Row}
-use Rattle.topology.specs.Names.{is_name}
 use Rattle.plan_form.specs.declared.faults.PlanFault.{PlanFault}
 use Rattle.plan_form.specs.declared.faults.PlanFault.TheVariants as faults
 use Rattle.plan_form.specs.declared.kinds.Kind.{Kind}
 use Rattle.plan_form.specs.declared.kinds.Kind.TheVariants as kinds
 use Rattle.plan_form.specs.Kinds.{kind_of}
-use Rattle.plan_form.specs.Parts.{PlanParts, IsSmall, IsNodeList, IsTermList, IsWellFormed}
+use Rattle.plan_form.specs.Parts.{PlanParts, IsSmall, IsNodeList, IsTermList, IsWellFormed, IsName, IsSmallLink, IsSmallPocket}
 use Rattle.plan_form.specs.PlanRows.{plan_row, node_row, link_row, monitor_row, pocket_row, path_row, recipe_row, numbered, rows_of_kind, rows_in}
 use Rattle.plan_form.specs.Reading.{IsRow, counted, AreNext, IsFirstAt, IsFirstFaultIn, Why}
 use Rattle.plan_form.proofs.Numbering.{map-numbered}
@@ -30,13 +29,13 @@ numbered_block {A} format k f Fits n row i (x ∷ xs) fits few =
 pub plan_blocks : (format : ℕ) (p : PlanParts) → IsWellFormed p → (k : Kind) → Block format k 0 (rows_of_kind format p k)
 unfolding kind_of IsRow
 plan_blocks format p w kinds.Plan = (rw ((bytes_eq-Decides (decimal format) (decimal format)).1 refl) refl, refl, tt)
-plan_blocks format p w kinds.Node = numbered_block format kinds.Node node_row (λ n. IsTrue (is_name n)) (2 ^ 32) (λ i x small fits. (rw fits refl, (small, x, fits, refl))) 0 p.names w.names (let few = w.few_names in omega (arith, few))
-plan_blocks format p w kinds.Link = numbered_block format kinds.Link link_row (λ l. IsSmall l.a × IsSmall l.b) (2 ^ 32) (λ i x small fits. (refl, (small, x, fits, refl))) 0 p.links w.links (let few = w.few_links in omega (arith, few))
+plan_blocks format p w kinds.Node = numbered_block format kinds.Node node_row IsName (2 ^ 32) (λ i x small fits. (rw fits refl, (small, x, fits, refl))) 0 p.names w.names (let few = w.few_names in omega (arith, few))
+plan_blocks format p w kinds.Link = numbered_block format kinds.Link link_row IsSmallLink (2 ^ 32) (λ i x small fits. (refl, (small, x, fits, refl))) 0 p.links w.links (let few = w.few_links in omega (arith, few))
 plan_blocks format p w kinds.Monitor =
     subst (Block format kinds.Monitor 0) (map-numbered monitor_row 0 p.monitors)
     (numbered_block format kinds.Monitor (λ _ v. monitor_row v) IsSmall (length p.monitors) (λ i x small fits. (refl, (x, fits, refl))) 0 p.monitors w.monitors (omega arith))
 plan_blocks format p w kinds.Pocket =
-    numbered_block format kinds.Pocket pocket_row (λ k. IsSmall k.need × IsNodeList k.nodes) (2 ^ 32) (λ i x small fits. (refl, (small, x, fits, refl))) 0 p.pockets w.pockets (let few = w.few_pockets in omega (arith, few))
+    numbered_block format kinds.Pocket pocket_row IsSmallPocket (2 ^ 32) (λ i x small fits. (refl, (small, x, fits, refl))) 0 p.pockets w.pockets (let few = w.few_pockets in omega (arith, few))
 plan_blocks format p w kinds.Path = numbered_block format kinds.Path path_row IsNodeList (2 ^ 32) (λ i x small fits. (refl, (small, x, fits, refl))) 0 p.paths w.paths (let few = w.few_paths in omega (arith, few))
 plan_blocks format p w kinds.Recipe = numbered_block format kinds.Recipe recipe_row IsTermList (2 ^ 32) (λ i x small fits. (refl, (small, x, fits, refl))) 0 p.recipes w.recipes (let few = w.few_recipes in omega (arith, few))
 plan_blocks format p w kinds.End = (refl, refl, tt)

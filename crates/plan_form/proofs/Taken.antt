@@ -9,7 +9,7 @@ use Rattle.simple_path.specs.declared.recipe.Term.{Term}
 use Rattle.plan_form.specs.declared.kinds.Kind.{Kind}
 use Rattle.plan_form.specs.declared.kinds.Kind.TheVariants as kinds
 use Rattle.plan_form.specs.Kinds.{place}
-use Rattle.plan_form.specs.Parts.{PlanPocket, PlanParts, IsSmall, IsNodeList, IsTermList}
+use Rattle.plan_form.specs.Parts.{PlanPocket, PlanParts, IsSmall, IsNodeList, IsTermList, IsName, IsSmallLink, IsSmallPocket}
 use Rattle.plan_form.specs.PlanRows.{plan_row, node_row, link_row, monitor_row, pocket_row, path_row, recipe_row, end_row, numbered, rows_of_kind}
 use Rattle.plan_form.specs.Reading.{IsNumbered, IsRow}
 use Rattle.plan_form.specs.Taking.{IsPart, Takes}
@@ -25,15 +25,15 @@ next Fits f xs x small fits = rw (length-numbered f 0 xs) (small, x, fits, refl)
 
 pub takes_name : (format : ℕ) (p : PlanParts) (x : List ℕ) → IsSmall (length p.names) → IsTrue (is_name x) → Takes format kinds.Node (node_row (length p.names) x) p (record p { names = p.names ++ x ∷ [] })
 unfolding IsRow
-takes_name format p x small fits = record { is_row = next (λ n. IsTrue (is_name n)) node_row p.names x small fits; rows = λ j _. rows j }
+takes_name format p x small fits = record { is_row = next IsName node_row p.names x small fits; rows = λ j _. rows j }
   where
     rows : (j : Kind) → rows_of_kind format (record p { names = p.names ++ x ∷ [] }) j ≡ rows_of_kind format p j ++ cond (place kinds.Node == place j) (node_row (length p.names) x ∷ []) []
     rows kinds.Node = more node_row p.names x
     rows _ = sym (append-nil _)
 
-pub takes_link : (format : ℕ) (p : PlanParts) (x : Link) → IsSmall (length p.links) → IsSmall x.a × IsSmall x.b → Takes format kinds.Link (link_row (length p.links) x) p (record p { links = p.links ++ x ∷ [] })
+pub takes_link : (format : ℕ) (p : PlanParts) (x : Link) → IsSmall (length p.links) → IsSmallLink x → Takes format kinds.Link (link_row (length p.links) x) p (record p { links = p.links ++ x ∷ [] })
 unfolding IsRow
-takes_link format p x small fits = record { is_row = next (λ l. IsSmall l.a × IsSmall l.b) link_row p.links x small fits; rows = λ j _. rows j }
+takes_link format p x small fits = record { is_row = next IsSmallLink link_row p.links x small fits; rows = λ j _. rows j }
   where
     rows : (j : Kind) → rows_of_kind format (record p { links = p.links ++ x ∷ [] }) j ≡ rows_of_kind format p j ++ cond (place kinds.Link == place j) (link_row (length p.links) x ∷ []) []
     rows kinds.Link = more link_row p.links x
@@ -47,9 +47,9 @@ takes_monitor format p x fits = record { is_row = (x, fits, refl); rows = λ j _
     rows kinds.Monitor = map-append monitor_row p.monitors (x ∷ [])
     rows _ = sym (append-nil _)
 
-pub takes_pocket : (format : ℕ) (p : PlanParts) (x : PlanPocket) → IsSmall (length p.pockets) → IsSmall x.need × IsNodeList x.nodes → Takes format kinds.Pocket (pocket_row (length p.pockets) x) p (record p { pockets = p.pockets ++ x ∷ [] })
+pub takes_pocket : (format : ℕ) (p : PlanParts) (x : PlanPocket) → IsSmall (length p.pockets) → IsSmallPocket x → Takes format kinds.Pocket (pocket_row (length p.pockets) x) p (record p { pockets = p.pockets ++ x ∷ [] })
 unfolding IsRow
-takes_pocket format p x small fits = record { is_row = next (λ k. IsSmall k.need × IsNodeList k.nodes) pocket_row p.pockets x small fits; rows = λ j _. rows j }
+takes_pocket format p x small fits = record { is_row = next IsSmallPocket pocket_row p.pockets x small fits; rows = λ j _. rows j }
   where
     rows : (j : Kind) → rows_of_kind format (record p { pockets = p.pockets ++ x ∷ [] }) j ≡ rows_of_kind format p j ++ cond (place kinds.Pocket == place j) (pocket_row (length p.pockets) x ∷ []) []
     rows kinds.Pocket = more pocket_row p.pockets x

@@ -14,9 +14,9 @@ use Rattle.std.proofs.lemmas.List.Splits.{join_with_byte-slice_split, slice_spli
 use Rattle.std.proofs.lemmas.Slice.Eq.{bytes_eq-Decides}
 use Rattle.std.proofs.lemmas.Str.Parse.{digit_at}
 use Rattle.simple_path.specs.declared.recipe.Term.{Term}
-use Rattle.plan_form.specs.Parts.{IsSmall, IsCoefficient, IsNodeList, IsTermList}
+use Rattle.plan_form.specs.Parts.{IsSmall, IsCoefficient, IsNodeList, IsTermList, IsTerm}
 use Rattle.plan_form.specs.Spelling.{space, colon, numbers_text, term_text, terms_text}
-use Rattle.plan_form.specs.Values.{Spells, IsTerm, coefficients, listed, parts}
+use Rattle.plan_form.specs.Values.{Spells, coefficients, listed, parts}
 use Rattle.plan_form.proofs.Joined.{Lacks, joined_injective}
 
 -- a text of digits has no byte but digits

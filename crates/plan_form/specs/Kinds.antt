@@ -9,38 +9,28 @@ use Rattle.plan_form.specs.declared.kinds.Kind.TheVariants.{Plan, Node, Link, Mo
 abbrev pub in_turn : List Kind
 in_turn = Plan ∷ Node ∷ Link ∷ Monitor ∷ Pocket ∷ Path ∷ Recipe ∷ End ∷ []
 
--- the place of a kind among them
+-- the table: the place of each kind, the word that its rows begin with, and how many fields they have
+abbrev pub table : Kind → ℕ × List ℕ × ℕ
+table Plan = (0, codes "plan", 2)
+table Node = (1, codes "node", 3)
+table Link = (2, codes "link", 4)
+table Monitor = (3, codes "monitor", 2)
+table Pocket = (4, codes "pocket", 4)
+table Path = (5, codes "path", 3)
+table Recipe = (6, codes "recipe", 3)
+table End = (7, codes "end", 1)
+
+-- where rows of the kind stand among those of other kinds
 abbrev pub place : Kind → ℕ
-place Plan = 0
-place Node = 1
-place Link = 2
-place Monitor = 3
-place Pocket = 4
-place Path = 5
-place Recipe = 6
-place End = 7
+place k = (table k).0
 
--- the word that its rows begin with
+-- the word
 abbrev pub word : Kind → List ℕ
-word Plan = codes "plan"
-word Node = codes "node"
-word Link = codes "link"
-word Monitor = codes "monitor"
-word Pocket = codes "pocket"
-word Path = codes "path"
-word Recipe = codes "recipe"
-word End = codes "end"
+word k = (table k).1
 
--- how many fields its rows have
+-- the number of fields
 abbrev pub width : Kind → ℕ
-width Plan = 2
-width Node = 3
-width Link = 4
-width Monitor = 2
-width Pocket = 4
-width Path = 3
-width Recipe = 3
-width End = 1
+width k = (table k).2
 
 -- the kind that a word names
 abbrev pub kind_named : List ℕ → Option Kind

@@ -1,14 +1,13 @@
 -- The faults of rows that are no plan: at a row, by the rows before it, and the first of all.
-use Rattle.std.specs.Prelude.{ℕ, ◌≡◌, ◌+◌, ◌<◌, ◌==◌, nat_le, nat_lt, Bool, true, false, ◌&&◌, List, [], ◌∷◌, ◌++◌, length, Option, Some, None, ◌⊎◌, ⊤, IsTrue}
+use Rattle.std.specs.Prelude.{ℕ, ◌≡◌, ◌+◌, ◌<◌, ◌==◌, nat_le, nat_lt, Bool, true, false, ◌&&◌, List, [], ◌∷◌, ◌++◌, length, Option, Some, None, ◌⊎◌, ⊤}
 use Rattle.tomo_base.specs.Sets.{one_if}
 use Rattle.rows.specs.Rows.{Row}
-use Rattle.topology.specs.Names.{is_name}
 use Rattle.plan_form.specs.declared.faults.PlanFault.{PlanFault}
 use Rattle.plan_form.specs.declared.faults.PlanFault.TheVariants as faults
 use Rattle.plan_form.specs.declared.kinds.Kind.{Kind}
 use Rattle.plan_form.specs.declared.kinds.Kind.TheVariants as kinds
 use Rattle.plan_form.specs.Kinds.{kind_of, place}
-use Rattle.plan_form.specs.Parts.{IsSmall, IsNodeList, IsTermList}
+use Rattle.plan_form.specs.Parts.{IsSmall, IsNodeList, IsTermList, IsName, IsSmallLink, IsSmallPocket}
 use Rattle.plan_form.specs.PlanRows.{plan_row, node_row, link_row, monitor_row, pocket_row, path_row, recipe_row, end_row}
 
 -- the row is that of a fitting value with number i, which can be spelled
@@ -18,10 +17,10 @@ IsNumbered {A} Fits row_of i row = IsSmall i × (x : A) × Fits x × (row ≡ ro
 -- the row is the spelling of one of its kind with number i; a kind without numbers takes any
 unfoldable pub IsRow : ℕ → Kind → ℕ → Row → Type 0
 IsRow format kinds.Plan i row = row ≡ plan_row format
-IsRow format kinds.Node i row = IsNumbered (λ n. IsTrue (is_name n)) node_row i row
-IsRow format kinds.Link i row = IsNumbered (λ l. IsSmall l.a × IsSmall l.b) link_row i row
+IsRow format kinds.Node i row = IsNumbered IsName node_row i row
+IsRow format kinds.Link i row = IsNumbered IsSmallLink link_row i row
 IsRow format kinds.Monitor i row = (v : ℕ) × IsSmall v × (row ≡ monitor_row v)
-IsRow format kinds.Pocket i row = IsNumbered (λ k. IsSmall k.need × IsNodeList k.nodes) pocket_row i row
+IsRow format kinds.Pocket i row = IsNumbered IsSmallPocket pocket_row i row
 IsRow format kinds.Path i row = IsNumbered IsNodeList path_row i row
 IsRow format kinds.Recipe i row = IsNumbered IsTermList recipe_row i row
 IsRow format kinds.End i row = row ≡ end_row

@@ -2,8 +2,6 @@
 use Rattle.std.specs.Prelude.{ℕ, ◌≡◌, ◌<◌, ◌≤◌, List, [], ◌∷◌, length, Option, Some, None, Bool, true, false, nat_eq, ℤ, pos, negsuc, cond, codes, bytes_eq}
 use Rattle.std.specs.List.{slice_split}
 use Rattle.std.specs.Str.Parse.{AllDigits, digits_value}
-use Rattle.simple_path.specs.declared.recipe.Term.{Term}
-use Rattle.plan_form.specs.Parts.{IsCoefficient, IsSmall}
 
 -- the text is the spelling of the fitting value x, or of none
 abbrev pub Spells : {A : Type 0} → (A → Type 0) → (A → List ℕ) → List ℕ → Option A → Type 0
@@ -36,10 +34,6 @@ coefficients =
 abbrev pub listed : List ℕ → List (List ℕ × ℤ) → Option ℤ
 listed text [] = None
 listed text ((spelling, z) ∷ rest) = cond (bytes_eq text spelling) (Some z) (listed text rest)
-
--- a term that can be spelled
-abbrev pub IsTerm : Term → Type 0
-IsTerm t = IsCoefficient t.coef × IsSmall t.path
 
 -- the parts between the places where the byte stands
 abbrev pub parts : ℕ → List ℕ → List (List ℕ)

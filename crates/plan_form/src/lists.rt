@@ -1,8 +1,8 @@
 // Lists of numbers and of terms as they are spelled in a plan.
 ghost use Rattle.std.specs.Prelude.{◌≡◌, ◌<◌, ◌∷◌, [], length, decimal, IfSome, IfNone, OnOk, IfOk};
 ghost use Rattle.plan_form.specs.Spelling.{numbers_text, term_text, terms_text};
-ghost use Rattle.plan_form.specs.Parts.{IsNodeList, IsTermList};
-ghost use Rattle.plan_form.specs.Values.{Spells, SpellsIn, IsTerm, coefficients, listed, parts};
+ghost use Rattle.plan_form.specs.Parts.{IsNodeList, IsTermList, IsTerm};
+ghost use Rattle.plan_form.specs.Values.{Spells, SpellsIn, coefficients, listed, parts};
 
 use crate::numerals::number;
 use simple_path::{Recipe, Term};

@@ -1,6 +1,6 @@
 use Rattle.std.proofs.Common.{length-append, arith, [], ◌∷◌}
+use Rattle.plan_form.specs.Parts.{IsTerm}
 use Rattle.plan_form.specs.Spelling.{space, term_text}
-use Rattle.plan_form.specs.Values.{IsTerm}
 use Rattle.plan_form.proofs.Cutting.{first_part}
 use Rattle.plan_form.proofs.Items.{read_last, read_not, read_longer, some_pushed}
 use Rattle.plan_form.proofs.Texts.{term_lacks}

@@ -1,6 +1,6 @@
 use Rattle.std.proofs.Common.{◌≤◌, length}
+use Rattle.plan_form.specs.Parts.{IsTerm}
 use Rattle.plan_form.specs.Spelling.{space, term_text}
-use Rattle.plan_form.specs.Values.{IsTerm}
 use Rattle.plan_form.proofs.Items.{ReadTo}
 use Rattle.plan_form.proofs.lists.read_terms.Given as goal
 

@@ -22,6 +22,7 @@ unfolding counted
 counted_block format j k i [] other block = refl
 counted_block format j k i (row ∷ rows) other block = rw (block.0, other) (omega (arith, counted_block format j k (i + 1) rows other block.2))
 
+-- they are picked for their kind, and for no other
 picked_block : (format : ℕ) (j k : Kind) (i : ℕ) (rows : List Row) → Block format j i rows → picked format k rows ≡ cond (place j == place k) rows []
 unfolding picked
 picked_block format j k i rows block = elim (cases_Bool (place j == place k)) [
@@ -73,6 +74,7 @@ record Ends (format : ℕ) (k : Kind) (rows : List Row) : Type 0 where
   is : last_kind format rows ≡ Some last
   le : place last ≤ place k
 
+-- rows that a block follows end so
 block_ends : (format : ℕ) (k last : Kind) (i : ℕ) (before rows : List Row) → last_kind format before ≡ Some last → place last ≤ place k → Block format k i rows → Ends format k (before ++ rows)
 block_ends format k last i before [] is le block = record { last = last; is = ap (last_kind format) (append-nil before) ∙ is; le = le }
 block_ends format k last i before (row ∷ rows) is le block =
@@ -137,6 +139,7 @@ module _ (format : ℕ) (part : Kind → List Row) (block : (k : Kind) → Block
   chosen k [] = []
   chosen k (j ∷ js) = cond (place j == place k) (part j) [] ++ chosen k js
 
+  -- it is picked, whatever kinds there are
   picked_blocks : (k : Kind) (ks : List Kind) → picked format k (flat_map part ks) ≡ chosen k ks
   unfolding picked chosen
   picked_blocks k [] = refl

@@ -41,6 +41,7 @@ pub record IsNumberText (text : List ℕ) (n : ℕ) : Type 0 where
   pub value : digits_value 10 text ≡ n
   pub first : get_or text 0 0 ≡ 48 → length text ≡ 1
 
+-- so is the text of each number
 pub decimal_is_number : (n : ℕ) → n < 2 ^ 32 → IsNumberText (decimal n) n
 decimal_is_number n lt =
     let is = decimal_is_IsNumeral n (omega (arith, lt)) in

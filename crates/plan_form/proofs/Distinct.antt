@@ -8,7 +8,7 @@ use Rattle.plan_form.specs.declared.kinds.Kind.TheVariants as kinds
 use Rattle.plan_form.specs.Kinds.{field}
 use Rattle.plan_form.specs.Parts.{PlanPocket, PlanParts, IsSmall, IsNodeList, IsTermList, IsWellFormed, IsName, IsSmallLink, IsSmallPocket}
 use Rattle.plan_form.specs.PlanRows.{node_row, link_row, monitor_row, pocket_row, path_row, recipe_row, numbered, rows_of_kind, rows_in}
-use Rattle.plan_form.proofs.Joined.{map_injective}
+use Rattle.plan_form.proofs.Joined.{heads, map_injective, tails}
 use Rattle.plan_form.proofs.Printed.{rows_picked}
 use Rattle.plan_form.proofs.Texts.{number_injective, numbers_injective, terms_injective}
 use Rattle.plan_form.proofs.Walking.{picked}
@@ -21,21 +21,17 @@ numbered_injective f Fits inj i [] (y ∷ ys) hx hy e = absurd (omega (arith, ap
 numbered_injective f Fits inj i (x ∷ xs) [] hx hy e = absurd (omega (arith, ap (length {A = _}) e))
 numbered_injective f Fits inj i (x ∷ xs) (y ∷ ys) hx hy e =
     ap₂ (λ v vs. v ∷ vs) (inj i x y (All-head Fits x xs hx) (All-head Fits y ys hy) (heads e)) (numbered_injective f Fits inj (i + 1) xs ys (All-tail Fits x xs hx) (All-tail Fits y ys hy) (tails e))
-  where
-    heads : f i x ∷ numbered f (i + 1) xs ≡ f i y ∷ numbered f (i + 1) ys → f i x ≡ f i y
-    heads e = cc
-
-    tails : f i x ∷ numbered f (i + 1) xs ≡ f i y ∷ numbered f (i + 1) ys → numbered f (i + 1) xs ≡ numbered f (i + 1) ys
-    tails e = cc
 
 -- the fields of equal rows are equal
 field_of : (k : ℕ) (xs ys : Row) → xs ≡ ys → field xs k ≡ field ys k
 field_of k xs ys e = ap (λ row. field row k) e
 
+-- different links have different rows
 link_injective : (i : ℕ) (l m : Link) → IsSmallLink l → IsSmallLink m → link_row i l ≡ link_row i m → l ≡ m
 link_injective i l m hl hm e =
     ap₂ (λ a b. record { a = a; b = b }) (number_injective l.a m.a hl.0 hm.0 (field_of 2 (link_row i l) (link_row i m) e)) (number_injective l.b m.b hl.1 hm.1 (field_of 3 (link_row i l) (link_row i m) e))
 
+-- so have different pockets
 pocket_injective : (i : ℕ) (p q : PlanPocket) → IsSmallPocket p → IsSmallPocket q → pocket_row i p ≡ pocket_row i q → p ≡ q
 pocket_injective i p q hp hq e =
     ap₂ (λ n ns. record { need = n; nodes = ns }) (number_injective p.need q.need hp.0 hq.0 (field_of 2 (pocket_row i p) (pocket_row i q) e)) (numbers_injective p.nodes q.nodes hp.1 hq.1 (field_of 3 (pocket_row i p) (pocket_row i q) e))

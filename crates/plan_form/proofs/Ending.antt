@@ -1,7 +1,8 @@
 -- Where all rows are read: they are those of the plan, or the end row is missing. And how much room the rows take.
 use Rattle.std.proofs.Common.{◌≡◌, ℕ, ◌+◌, ◌<◌, ◌≤◌, ◌^◌, true, false, List, [], ◌∷◌, ◌++◌, length, take, Option, is_some, Some, None, refl, sym, ap, subst, ◌∙◌, ◌==◌, slice_get, add-zero, inl, inr, arith, length-take}
-use Rattle.std.proofs.lemmas.Bool.{cases_Bool, eqb-true}
+use Rattle.std.proofs.lemmas.Bool.{cases_Bool, eqb-true, false≢true}
 use Rattle.std.proofs.lemmas.List.{take_all, take_more}
+use Rattle.std.proofs.lemmas.Option.{same_Some}
 use Rattle.std.proofs.lemmas.List.Sums.{sum_by-cons, sum_by-take-le, sum_by_push}
 use Rattle.rows.specs.Rows.{Row, row_bytes, byte_count}
 use Rattle.topology.specs.Names.{row_at}
@@ -23,11 +24,9 @@ in_turn_at : (k : Kind) → slice_get in_turn (place k) ≡ Some k
 in_turn_at kinds.Plan = refl
 in_turn_at _ = refl
 
+-- so kinds with one place are one
 same_place : (j k : Kind) → place j ≡ place k → j ≡ k
-same_place j k e = same (sym (in_turn_at j) ∙ (ap (slice_get in_turn) e ∙ in_turn_at k))
-  where
-    same : Some j ≡ Some k → j ≡ k
-    same e = cc
+same_place j k e = same_Some j k (sym (in_turn_at j) ∙ (ap (slice_get in_turn) e ∙ in_turn_at k))
 
 -- rows of a kind that follow each other without a fault are a block
 picked_is_block : (format : ℕ) (k : Kind) (before rows : List Row) → AreNext format before rows → Block format k (counted format k before) (picked format k rows)
@@ -57,9 +56,11 @@ frame_rows format p kinds.End _ frame one block = absurd (omega (arith, one))
 frame_rows format p _ rows frame one block = absurd (frame (omega arith, omega arith))
 
 module _ (format : ℕ) (rows : List Row) (last : Option Kind) (p : PlanParts) (w : Walked format rows (length rows) last p) where
+  -- all rows were read
   all_taken : take (length rows) rows ≡ rows
   all_taken = take_all (length rows) rows (omega arith)
 
+  -- and none has a fault
   all_fine : AreNext format [] rows
   all_fine = subst (AreNext format []) all_taken w.fine
 
@@ -69,10 +70,7 @@ module _ (format : ℕ) (rows : List Row) (last : Option Kind) (p : PlanParts) (
   walk_done formed ended = same_rows format 0 0 rows (rows_in format p) (fine_rises format rows all_fine) (fine_rises format (rows_in format p) (rows_fine format p formed)) (λ k. of_kind k ∙ sym (rows_picked format p formed k))
     where
       some : (o : Option Kind) → is_kind o kinds.End ≡ true → is_some o ≡ true
-      some None e = absurd (no e)
-        where
-          no : false ≡ true → ⊥
-          no e = cc
+      some None e = absurd (false≢true e)
       some (Some k) e = refl
 
       frame : (k : Kind) → (IsPart k → ⊥) → counted format k (take (length rows) rows) ≡ 1 → picked format k rows ≡ rows_of_kind format p k
@@ -87,6 +85,7 @@ module _ (format : ℕ) (rows : List Row) (last : Option Kind) (p : PlanParts) (
   pub walk_unended : is_kind last kinds.End ≡ false → IsUnended format rows (length rows)
   walk_unended open_yet = record { count_is = refl; fine = all_fine; open_yet = ap (counted format kinds.End) (sym all_taken) ∙ (w.ended ∙ rw open_yet) }
 
+-- rows of a kind are no more than all
 counted-le : (format : ℕ) (k : Kind) (rows : List Row) → counted format k rows ≤ length rows
 unfolding counted
 counted-le format k [] = omega arith

@@ -5,9 +5,11 @@ use Rattle.topology.specs.Names.{is_name}
 use Rattle.simple_path.specs.declared.recipe.Term.{Term}
 use Rattle.plan_form.specs.Parts.{PlanPocket, PlanParts, IsNodeList, IsTermList, IsWellFormed, IsName, IsSmallPocket}
 
+-- there is room for an item more
 few : {A : Type 0} (xs : List A) (x : A) (n : ℕ) → length xs + 1 < n → length (xs ++ x ∷ []) < n
 few xs x n l = omega (arith, length-append xs (x ∷ []), l)
 
+-- a name more
 pub more_names : (p : PlanParts) (x : List ℕ) → IsWellFormed p → IsTrue (is_name x) → length p.names + 1 < 2 ^ 32 → IsWellFormed (record p { names = p.names ++ x ∷ [] })
 more_names p x w fits room = record {
   names = All-push IsName p.names x w.names fits;
@@ -23,6 +25,7 @@ more_names p x w fits room = record {
   few_recipes = w.few_recipes;
 }
 
+-- a pocket more
 pub more_pockets : (p : PlanParts) (x : PlanPocket) → IsWellFormed p → IsSmallPocket x → length p.pockets + 1 < 2 ^ 32 → IsWellFormed (record p { pockets = p.pockets ++ x ∷ [] })
 more_pockets p x w fits room = record {
   names = w.names;
@@ -38,6 +41,7 @@ more_pockets p x w fits room = record {
   few_recipes = w.few_recipes;
 }
 
+-- a path more
 pub more_paths : (p : PlanParts) (x : List ℕ) → IsWellFormed p → IsNodeList x → length p.paths + 1 < 2 ^ 31 → IsWellFormed (record p { paths = p.paths ++ x ∷ [] })
 more_paths p x w fits room = record {
   names = w.names;
@@ -53,6 +57,7 @@ more_paths p x w fits room = record {
   few_recipes = w.few_recipes;
 }
 
+-- a recipe more
 pub more_recipes : (p : PlanParts) (x : List Term) → IsWellFormed p → IsTermList x → length p.recipes + 1 < 2 ^ 32 → IsWellFormed (record p { recipes = p.recipes ++ x ∷ [] })
 more_recipes p x w fits room = record {
   names = w.names;

@@ -5,7 +5,7 @@ use Rattle.std.proofs.lemmas.List.{map-append}
 use Rattle.std.proofs.lemmas.List.Elements.{All-head, All-tail, All-push}
 use Rattle.std.proofs.lemmas.List.Splits.{join_with_byte-slice_split}
 use Rattle.plan_form.specs.Values.{Spells, parts}
-use Rattle.plan_form.proofs.Joined.{Lacks, parts_joined}
+use Rattle.plan_form.proofs.Joined.{Lacks, heads, parts_joined, tails}
 
 -- an item of ys stands where the items xs end, and is spelled by the part there
 pub record IsAfter {A : Type 0} (f : A → List ℕ) (Fits : A → Type 0) (xs ys : List A) (part : List ℕ) : Type 0 where
@@ -14,19 +14,14 @@ pub record IsAfter {A : Type 0} (f : A → List ℕ) (Fits : A → Type 0) (xs y
   pub is : part ≡ f item
   pub longer : length xs < length ys
 
+-- such an item there is, where the texts of ys are those of xs, the part and more
 after : {A : Type 0} (f : A → List ℕ) (Fits : A → Type 0) (xs ys : List A) (part : List ℕ) (more : List (List ℕ)) → All Fits ys → map f ys ≡ map f xs ++ part ∷ more → IsAfter f Fits xs ys part
 after {A} f Fits [] [] part more fits e = absurd (omega (arith, ap (length {A = List ℕ}) e))
-after {A} f Fits [] (y ∷ ys) part more fits e = record { item = y; fits = All-head Fits y ys fits; is = heads e; longer = omega arith }
-  where
-    heads : f y ∷ map f ys ≡ part ∷ more → part ≡ f y
-    heads e = cc
+after {A} f Fits [] (y ∷ ys) part more fits e = record { item = y; fits = All-head Fits y ys fits; is = sym (heads e); longer = omega arith }
 after {A} f Fits (x ∷ xs) [] part more fits e = absurd (omega (arith, ap (length {A = List ℕ}) e))
 after {A} f Fits (x ∷ xs) (y ∷ ys) part more fits e =
     let rest = after f Fits xs ys part more (All-tail Fits y ys fits) (tails e) in
     record { item = rest.item; fits = rest.fits; is = rest.is; longer = (let l = rest.longer in omega (arith, l)) }
-  where
-    tails : f y ∷ map f ys ≡ f x ∷ (map f xs ++ part ∷ more) → map f ys ≡ map f xs ++ part ∷ more
-    tails e = cc
 
 -- the items xs were read, and the rest is still to be read
 pub record ReadTo {A : Type 0} (byte : ℕ) (f : A → List ℕ) (Fits : A → Type 0) (text rest : List ℕ) (xs : List A) : Type 0 where
@@ -64,5 +59,6 @@ module _ {A : Type 0} (byte : ℕ) (f : A → List ℕ) (Fits : A → Type 0) (t
   pub read_longer : ((x : A) → Fits x → Lacks byte (f x)) → (more : List (List ℕ)) → parts byte rest ≡ part ∷ more → (ys : List A) → 0 < length ys → All Fits ys → text ≡ join_with_byte byte (map f ys) → length xs < length ys
   read_longer lack more cut ys some fits e = (goes_on lack more cut ys some fits e).longer
 
+-- a list to which an item was added is not empty
 pub some_pushed : {A : Type 0} (xs : List A) (x : A) → 0 < length (xs ++ x ∷ [])
 some_pushed xs x = omega (arith, length-append xs (x ∷ []))

@@ -10,8 +10,17 @@ use Rattle.plan_form.specs.Values.{parts}
 abbrev pub Lacks : ℕ → List ℕ → Type 0
 Lacks byte text = All (λ b. nat_eq b byte ≡ false) text
 
+-- a byte is equal to itself
 same_byte : (byte : ℕ) → nat_eq byte byte ≡ true
 same_byte byte = grind (arith, nat_tests)
+
+-- equal lists have equal first items
+pub heads : {A : Type 0} {x y : A} {xs ys : List A} → x ∷ xs ≡ y ∷ ys → x ≡ y
+heads e = cc
+
+-- and equal rests
+pub tails : {A : Type 0} {x y : A} {xs ys : List A} → x ∷ xs ≡ y ∷ ys → xs ≡ ys
+tails e = cc
 
 -- lists are equal where an injective spelling of their items gives equal lists
 pub map_injective : {A B : Type 0} (f : A → B) (Fits : A → Type 0) → ((x y : A) → Fits x → Fits y → f x ≡ f y → x ≡ y) → (xs ys : List A) → All Fits xs → All Fits ys → map f xs ≡ map f ys → xs ≡ ys
@@ -20,12 +29,6 @@ map_injective f Fits inj [] (y ∷ ys) hx hy e = absurd (omega (arith, ap (lengt
 map_injective f Fits inj (x ∷ xs) [] hx hy e = absurd (omega (arith, ap (length {A = _}) e))
 map_injective f Fits inj (x ∷ xs) (y ∷ ys) hx hy e =
     ap₂ (λ v vs. v ∷ vs) (inj x y (All-head Fits x xs hx) (All-head Fits y ys hy) (heads e)) (map_injective f Fits inj xs ys (All-tail Fits x xs hx) (All-tail Fits y ys hy) (tails e))
-  where
-    heads : f x ∷ map f xs ≡ f y ∷ map f ys → f x ≡ f y
-    heads e = cc
-
-    tails : f x ∷ map f xs ≡ f y ∷ map f ys → map f xs ≡ map f ys
-    tails e = cc
 
 module _ {A : Type 0} (byte : ℕ) (f : A → List ℕ) (Fits : A → Type 0) (lack : (x : A) → Fits x → Lacks byte (f x)) where
   -- the items joined

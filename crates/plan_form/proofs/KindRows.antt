@@ -1,7 +1,7 @@
 -- The rows of each kind, by their fields.
 use Rattle.std.proofs.Common.{◌≡◌, ℕ, Bool, true, false, List, Some, None, refl, sym, ap, ◌∙◌, IsTrue}
 use Rattle.std.specs.Fmt.{decimal}
-use Rattle.std.proofs.lemmas.Bool.{and_parts}
+use Rattle.std.proofs.lemmas.Bool.{and_parts, false≢true}
 use Rattle.std.proofs.lemmas.Slice.Eq.{bytes_eq-Decides}
 use Rattle.tomo_base.specs.declared.graph.Link.{Link}
 use Rattle.rows.specs.Rows.{Row}
@@ -25,20 +25,12 @@ has_number kinds.Monitor = false
 has_number kinds.End = false
 has_number _ = true
 
+-- then the second field is its text
 number_of : (format : ℕ) (k : Kind) (i : ℕ) (row : Row) → has_number k ≡ true → IsRow format k i row → IsSmall i × (field row 1 ≡ decimal i)
 unfolding IsRow
-number_of format kinds.Plan i row numbered is = absurd (impossible numbered)
-  where
-    impossible : false ≡ true → ⊥
-    impossible e = cc
-number_of format kinds.Monitor i row numbered is = absurd (impossible numbered)
-  where
-    impossible : false ≡ true → ⊥
-    impossible e = cc
-number_of format kinds.End i row numbered is = absurd (impossible numbered)
-  where
-    impossible : false ≡ true → ⊥
-    impossible e = cc
+number_of format kinds.Plan i row numbered is = absurd (false≢true numbered)
+number_of format kinds.Monitor i row numbered is = absurd (false≢true numbered)
+number_of format kinds.End i row numbered is = absurd (false≢true numbered)
 number_of format _ i row numbered is = (is.0, ap (λ r. field r 1) is.3)
 
 -- a row without a number is none of a kind with numbers
@@ -66,6 +58,7 @@ end_is format row kind = row_of_one row (is_wide format row kinds.End kind) ∙ 
 pub node_named : (format : ℕ) (row : Row) → kind_of format row ≡ Some kinds.Node → IsTrue (is_name (field row 2))
 node_named format row kind = (and_parts _ _ (kind_tells format row kinds.Node kind).1).1
 
+-- a node row with its number
 pub node_is : (format : ℕ) (row : Row) (n : ℕ) → kind_of format row ≡ Some kinds.Node → Spells IsSmall decimal (field row 1) (Some n) → IsRow format kinds.Node n row × (row ≡ node_row n (field row 2))
 unfolding IsRow
 node_is format row n kind number =
@@ -80,10 +73,12 @@ link_is format row n l kind number a b =
     let same : row ≡ link_row n l = row_of_four row (is_wide format row kinds.Link kind) ∙ rw ((kind_tells format row kinds.Link kind).0, number.1, a.1, b.1) refl in
     ((number.0, l, (a.0, b.0), same), same)
 
+-- the first end is missing
 pub link_without_first : (format : ℕ) (row : Row) → Spells IsSmall decimal (field row 2) None → (i : ℕ) → IsRow format kinds.Link i row → ⊥
 unfolding IsRow
 link_without_first format row = unspelled IsSmallLink link_row 2 IsSmall decimal (λ i l. l.a) (λ i l small fits. (fits.0, refl)) row
 
+-- the second end is missing
 pub link_without_second : (format : ℕ) (row : Row) → Spells IsSmall decimal (field row 3) None → (i : ℕ) → IsRow format kinds.Link i row → ⊥
 unfolding IsRow
 link_without_second format row = unspelled IsSmallLink link_row 3 IsSmall decimal (λ i l. l.b) (λ i l small fits. (fits.1, refl)) row
@@ -92,6 +87,7 @@ link_without_second format row = unspelled IsSmallLink link_row 3 IsSmall decima
 pub monitor_is : (format : ℕ) (row : Row) (v : ℕ) → kind_of format row ≡ Some kinds.Monitor → Spells IsSmall decimal (field row 1) (Some v) → row ≡ monitor_row v
 monitor_is format row v kind number = row_of_two row (is_wide format row kinds.Monitor kind) ∙ rw ((kind_tells format row kinds.Monitor kind).0, number.1) refl
 
+-- the node is missing
 pub monitor_without_node : (format : ℕ) (row : Row) → Spells IsSmall decimal (field row 1) None → (i : ℕ) → IsRow format kinds.Monitor i row → ⊥
 unfolding IsRow
 monitor_without_node format row none i is = none is.0 is.1 (ap (λ r. field r 1) is.2)
@@ -104,10 +100,12 @@ pocket_is format row n p kind number need nodes =
     let same : row ≡ pocket_row n p = row_of_four row (is_wide format row kinds.Pocket kind) ∙ rw ((kind_tells format row kinds.Pocket kind).0, number.1, need.1, nodes.1) refl in
     ((number.0, p, (need.0, nodes.0), same), same)
 
+-- the need is missing
 pub pocket_without_need : (format : ℕ) (row : Row) → Spells IsSmall decimal (field row 2) None → (i : ℕ) → IsRow format kinds.Pocket i row → ⊥
 unfolding IsRow
 pocket_without_need format row = unspelled IsSmallPocket pocket_row 2 IsSmall decimal (λ i p. p.need) (λ i p small fits. (fits.0, refl)) row
 
+-- the nodes are missing
 pub pocket_without_nodes : (format : ℕ) (row : Row) → Spells IsNodeList numbers_text (field row 3) None → (i : ℕ) → IsRow format kinds.Pocket i row → ⊥
 unfolding IsRow
 pocket_without_nodes format row = unspelled IsSmallPocket pocket_row 3 IsNodeList numbers_text (λ i p. p.nodes) (λ i p small fits. (fits.1, refl)) row
@@ -119,6 +117,7 @@ path_is format row n nodes kind number spelled =
     let same : row ≡ path_row n nodes = row_of_three row (is_wide format row kinds.Path kind) ∙ rw ((kind_tells format row kinds.Path kind).0, number.1, spelled.1) refl in
     ((number.0, nodes, spelled.0, same), same)
 
+-- the nodes are missing
 pub path_without_nodes : (format : ℕ) (row : Row) → Spells IsNodeList numbers_text (field row 2) None → (i : ℕ) → IsRow format kinds.Path i row → ⊥
 unfolding IsRow
 path_without_nodes format row = unspelled IsNodeList path_row 2 IsNodeList numbers_text (λ i nodes. nodes) (λ i nodes small fits. (fits, refl)) row
@@ -130,6 +129,7 @@ recipe_is format row n terms kind number spelled =
     let same : row ≡ recipe_row n terms = row_of_three row (is_wide format row kinds.Recipe kind) ∙ rw ((kind_tells format row kinds.Recipe kind).0, number.1, spelled.1) refl in
     ((number.0, terms, spelled.0, same), same)
 
+-- the terms are missing
 pub recipe_without_terms : (format : ℕ) (row : Row) → Spells IsTermList terms_text (field row 2) None → (i : ℕ) → IsRow format kinds.Recipe i row → ⊥
 unfolding IsRow
 recipe_without_terms format row = unspelled IsTermList recipe_row 2 IsTermList terms_text (λ i terms. terms) (λ i terms small fits. (fits, refl)) row

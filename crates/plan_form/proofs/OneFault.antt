@@ -6,6 +6,7 @@ use Rattle.plan_form.specs.declared.faults.PlanFault.{PlanFault}
 use Rattle.plan_form.specs.declared.faults.PlanFault.TheVariants as faults
 use Rattle.plan_form.specs.Kinds.{kind_of}
 use Rattle.plan_form.specs.Reading.{AreNext, IsRow, is_in_order, FaultAt, Why, Late, Unknown, Misplaced, Misspelled, Misnumbered, IsFirstAt, IsUnended, IsFirstFaultIn}
+use Rattle.plan_form.proofs.Joined.{heads, tails}
 use Rattle.plan_form.proofs.Walking.{next_at, not_both, same_kind, no_kind}
 use Rattle.plan_form.proofs.Printed.{none_at}
 
@@ -17,6 +18,7 @@ turn Misplaced = 2
 turn Misspelled = 3
 turn Misnumbered = 4
 
+-- the last of them
 last_turn : (w : Why) → turn w ≤ 4
 unfolding turn
 last_turn Late = omega arith
@@ -41,6 +43,7 @@ not_later format before row Misspelled Misnumbered l hv hw =
     hv.3 hw.3.0 (subst (λ k. IsRow format k hw.3.0 row) e hw.3.1)
 not_later format before row v w l hv hw = absurd (omega (arith, l, last_turn w))
 
+-- each has a turn of its own
 same_turn : (v w : Why) → turn v ≡ turn w → v ≡ w
 unfolding turn
 same_turn Late Late e = refl
@@ -62,33 +65,19 @@ same_why format before row v w hv hw = elim (cases_order (turn v) (turn w)) [
 Places : List Row → List Row → Row → Row → Type 0
 Places xs ys x y = ((more : List Row) × (ys ≡ xs ++ x ∷ more)) ⊎ (((xs ≡ ys) × (x ≡ y)) ⊎ ((more : List Row) × (xs ≡ ys ++ y ∷ more)))
 
+-- so it is where one list has both
 places : (xs ys : List Row) (x y : Row) (xs' ys' : List Row) → xs ++ x ∷ xs' ≡ ys ++ y ∷ ys' → Places xs ys x y
 unfolding Places
-places [] [] x y xs' ys' e = inr (inl (refl, first x y xs' ys' e))
-  where
-    first : (x y : Row) (xs ys : List Row) → x ∷ xs ≡ y ∷ ys → x ≡ y
-    first x y xs ys e = cc
-places [] (b ∷ ys) x y xs' ys' e = inl (ys, ap (λ r. r ∷ ys) (first b x (ys ++ y ∷ ys') xs' (sym e)))
-  where
-    first : (x y : Row) (xs ys : List Row) → x ∷ xs ≡ y ∷ ys → x ≡ y
-    first x y xs ys e = cc
-places (a ∷ xs) [] x y xs' ys' e = inr (inr (xs, ap (λ r. r ∷ xs) (first a y (xs ++ x ∷ xs') ys' e)))
-  where
-    first : (x y : Row) (xs ys : List Row) → x ∷ xs ≡ y ∷ ys → x ≡ y
-    first x y xs ys e = cc
+places [] [] x y xs' ys' e = inr (inl (refl, heads e))
+places [] (b ∷ ys) x y xs' ys' e = inl (ys, ap (λ r. r ∷ ys) (heads (sym e)))
+places (a ∷ xs) [] x y xs' ys' e = inr (inr (xs, ap (λ r. r ∷ xs) (heads e)))
 places (a ∷ xs) (b ∷ ys) x y xs' ys' e =
-    let same : a ≡ b = first a b (xs ++ x ∷ xs') (ys ++ y ∷ ys') e in
-    elim (places xs ys x y xs' ys' (rest a b (xs ++ x ∷ xs') (ys ++ y ∷ ys') e)) [
+    let same : a ≡ b = heads e in
+    elim (places xs ys x y xs' ys' (tails e)) [
       | inl h ↦ inl (h.0, ap₂ (λ r rs. r ∷ rs) (sym same) h.1)
       | inr (inl h) ↦ inr (inl (ap₂ (λ r rs. r ∷ rs) same h.0, h.1))
       | inr (inr h) ↦ inr (inr (h.0, ap₂ (λ r rs. r ∷ rs) same h.1))
     ]
-  where
-    first : (x y : Row) (xs ys : List Row) → x ∷ xs ≡ y ∷ ys → x ≡ y
-    first x y xs ys e = cc
-
-    rest : (x y : Row) (xs ys : List Row) → x ∷ xs ≡ y ∷ ys → xs ≡ ys
-    rest x y xs ys e = cc
 
 -- the first row with a fault is one, and so is its fault
 one_place : (format : ℕ) (rows : List Row) (m n : ℕ) (v w : Why) → IsFirstAt format rows m v → IsFirstAt format rows n w → (m ≡ n) × (v ≡ w)
@@ -116,6 +105,7 @@ data Case (format : ℕ) (rows : List Row) (f : PlanFault) : Type 0 where
   Unended : (n : ℕ) → IsUnended format rows n → f ≡ faults.Missing n → Case format rows f
   OfRow : (n : ℕ) (why : Why) → IsFirstAt format rows n why → f ≡ fault_of why n → Case format rows f
 
+-- one of these it is
 case_of : (format : ℕ) (rows : List Row) (f : PlanFault) → IsFirstFaultIn format rows f → Case format rows f
 unfolding fault_of
 case_of format rows faults.NoMemory h = Free refl
@@ -126,6 +116,7 @@ case_of format rows (faults.Order n) (inr h) = OfRow n Misnumbered h refl
 case_of format rows (faults.Missing n) h = Unended n h refl
 case_of format rows (faults.After n) h = OfRow n Late h refl
 
+-- two first faults are one in each case
 one_case : (format : ℕ) (rows : List Row) (f g : PlanFault) → Case format rows f → Case format rows g → f ≢ faults.NoMemory → g ≢ faults.NoMemory → f ≡ g
 one_case format rows f g (Free e) hg some more = absurd (some e)
 one_case format rows f g hf (Free e) some more = absurd (more e)

@@ -5,6 +5,7 @@ use Rattle.rows.specs.Rows.{Row}
 use Rattle.plan_form.specs.declared.kinds.Kind.{Kind}
 use Rattle.plan_form.specs.Kinds.{kind_of, place}
 use Rattle.plan_form.specs.Reading.{last_kind, AreNext}
+use Rattle.plan_form.proofs.Joined.{heads, tails}
 use Rattle.plan_form.proofs.Walking.{picked, last_kind-push}
 
 -- each row is of a kind from place d on, and no kind comes after a later one
@@ -20,6 +21,7 @@ rises format before (row ∷ rows) last is fine =
     let follows = and_parts _ _ (rw is at fine.0.in_order) in
     (k, fine.0.is_of.is_kind, leb-true (place last) (place k) follows.1, rises format (before ++ row ∷ []) rows k (last_kind-push format before row ∙ fine.0.is_of.is_kind) fine.1)
 
+-- from the first row on
 pub fine_rises : (format : ℕ) (rows : List Row) → AreNext format [] rows → Rising format 0 rows
 fine_rises format [] fine = tt
 fine_rises format (row ∷ rows) fine = (fine.0.kind, fine.0.is_of.is_kind, omega arith, rises format (row ∷ []) rows fine.0.kind (last_kind-push format [] row ∙ fine.0.is_of.is_kind) fine.1)
@@ -42,6 +44,7 @@ picked_before format k d (row ∷ rows) l up =
     picked-other format up.0 k row rows up.1 (ne_eqb (place up.0) (place k) (λ e. absurd (omega (arith, e, l, up.2))))
     ∙ picked_before format k (place up.0) rows (omega (arith, l, up.2)) up.3
 
+-- of no rows none is picked
 picked-nil : (format : ℕ) (k : Kind) → picked format k [] ≡ []
 unfolding picked
 picked-nil format k = refl
@@ -57,21 +60,15 @@ same_rows format d e [] (y ∷ ys) hx hy same = absurd (present format y ys hy.0
 same_rows format d e (x ∷ xs) [] hx hy same = absurd (present format x xs hx.0 hx.1 (same hx.0 ∙ picked-nil format hx.0))
 same_rows format d e (x ∷ xs) (y ∷ ys) hx hy same = elim (cases_order (place hx.0) (place hy.0)) [
   | inl eq ↦
-      let heads : x ∷ picked format hx.0 xs ≡ y ∷ picked format hx.0 ys =
+      let both : x ∷ picked format hx.0 xs ≡ y ∷ picked format hx.0 ys =
       sym (picked-own format hx.0 hx.0 x xs hx.1 (eq-eqb (place hx.0) (place hx.0) refl)) ∙ (same hx.0 ∙ picked-own format hy.0 hx.0 y ys hy.1 (eq-eqb (place hy.0) (place hx.0) (sym eq))) in
-      ap₂ (λ r rs. r ∷ rs) (first x y _ _ heads) (same_rows format (place hx.0) (place hy.0) xs ys hx.3 hy.3 (λ k. rest format hx.0 hy.0 x y xs ys k hx.1 hy.1 eq (same k)))
+      ap₂ (λ r rs. r ∷ rs) (heads both) (same_rows format (place hx.0) (place hy.0) xs ys hx.3 hy.3 (λ k. rest format hx.0 hy.0 x y xs ys k hx.1 hy.1 eq (same k)))
   | inr (inl l) ↦ absurd (present format x xs hx.0 hx.1 (same hx.0 ∙ picked_before format hx.0 (place hy.0) (y ∷ ys) l (hy.0, hy.1, omega arith, hy.3)))
   | inr (inr l) ↦ absurd (present format y ys hy.0 hy.1 (sym (same hy.0) ∙ picked_before format hy.0 (place hx.0) (x ∷ xs) l (hx.0, hx.1, omega arith, hx.3)))
 ]
   where
-    first : (x y : Row) (xs ys : List Row) → x ∷ xs ≡ y ∷ ys → x ≡ y
-    first x y xs ys e = cc
-
-    tails : (x y : Row) (xs ys : List Row) → x ∷ xs ≡ y ∷ ys → xs ≡ ys
-    tails x y xs ys e = cc
-
     rest : (format : ℕ) (i j : Kind) (x y : Row) (xs ys : List Row) (k : Kind) → kind_of format x ≡ Some i → kind_of format y ≡ Some j → place i ≡ place j → picked format k (x ∷ xs) ≡ picked format k (y ∷ ys) → picked format k xs ≡ picked format k ys
     rest format i j x y xs ys k hx hy eq h = elim (cases_Bool (place i == place k)) [
-      | inl b ↦ tails x y _ _ (sym (picked-own format i k x xs hx b) ∙ (h ∙ picked-own format j k y ys hy (rw (← eq) b)))
+      | inl b ↦ tails (sym (picked-own format i k x xs hx b) ∙ (h ∙ picked-own format j k y ys hy (rw (← eq) b)))
       | inr b ↦ sym (picked-other format i k x xs hx b) ∙ (h ∙ picked-other format j k y ys hy (rw (← eq) b))
     ]

@@ -35,6 +35,7 @@ walk_none format rows = record { fine = tt; last_is = refl; begun = refl; ended 
     none _ part = refl
 
 module _ (format : ℕ) (rows : List Row) (r : ℕ) (last : Option Kind) (p : PlanParts) (w : Walked format rows r last p) (lt : r < length rows) where
+  -- the next row comes to those before
   pub one_row_more : take (r + 1) rows ≡ take r rows ++ row_at rows r ∷ []
   one_row_more = take_more rows r [] lt
 
@@ -50,6 +51,7 @@ module _ (format : ℕ) (rows : List Row) (r : ℕ) (last : Option Kind) (p : Pl
   in_place kinds.End row is = is
   in_place k row is = subst (λ n. IsRow format k n row) (part_counted k (omega arith, omega arith)) is
 
+  -- and the other way round
   out_of_place : (k : Kind) (row : Row) → IsRow format k (counted format k (take r rows)) row → IsRow format k (length (rows_of_kind format p k)) row
   unfolding IsRow
   out_of_place kinds.Plan row is = is
@@ -57,6 +59,7 @@ module _ (format : ℕ) (rows : List Row) (r : ℕ) (last : Option Kind) (p : Pl
   out_of_place kinds.End row is = is
   out_of_place k row is = subst (λ n. IsRow format k n row) (sym (part_counted k (omega arith, omega arith))) is
 
+  -- before the end row there is none
   no_end : is_kind last kinds.End ≡ false → counted format kinds.End (take r rows) ≡ 0
   no_end open_yet = w.ended ∙ rw open_yet refl
 

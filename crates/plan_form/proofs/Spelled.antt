@@ -3,6 +3,7 @@ use Rattle.std.proofs.Common.{◌≡◌, ℕ, Bool, true, false, List, [], ◌�
 use Rattle.std.specs.Prelude.{bytes_eq, find, cond}
 use Rattle.std.specs.Result.{IsErrAnd}
 use Rattle.std.proofs.lemmas.Bool.{and_parts, cases_Bool, eqb-true}
+use Rattle.std.proofs.lemmas.Option.{none-some, same_Some}
 use Rattle.std.proofs.lemmas.Slice.Eq.{bytes_eq-Decides}
 use Rattle.rows.specs.Rows.{Row}
 use Rattle.plan_form.specs.declared.faults.PlanFault.{PlanFault}
@@ -17,17 +18,11 @@ use Rattle.plan_form.specs.Values.{Spells}
 
 -- what is found passes the test
 found_passes : {A : Type 0} (test : A → Bool) (xs : List A) (x : A) → find test xs ≡ Some x → test x ≡ true
-found_passes test [] x e = absurd (nothing e)
-  where
-    nothing : None ≡ Some x → ⊥
-    nothing e = cc
+found_passes test [] x e = absurd (none-some x e)
 found_passes test (y ∷ ys) x e = elim (cases_Bool (test y)) [
-  | inl b ↦ subst (λ z. test z ≡ true) (same (rw b at e)) b
+  | inl b ↦ subst (λ z. test z ≡ true) (same_Some y x (rw b at e)) b
   | inr b ↦ found_passes test ys x (rw b at e)
 ]
-  where
-    same : Some y ≡ Some x → y ≡ x
-    same e = cc
 
 -- a row of a kind has the word and the fields of the kind
 pub kind_tells : (format : ℕ) (row : Row) (k : Kind) → kind_of format row ≡ Some k → (field row 0 ≡ word k) × (is_record format row k ≡ true)
@@ -35,23 +30,18 @@ unfolding kind_of
 kind_tells format row k e = tells (kind_named (field row 0)) refl e
   where
     same : (b : Bool) (j : Kind) → cond b (Some j) None ≡ Some k → (b ≡ true) × (j ≡ k)
-    same true j e = (refl, cc)
-    same false j e = absurd (nothing e)
-      where
-        nothing : None ≡ Some k → ⊥
-        nothing e = cc
+    same true j e = (refl, same_Some j k e)
+    same false j e = absurd (none-some k e)
 
     tells : (o : Option Kind) → kind_named (field row 0) ≡ o → filtered (is_record format row) o ≡ Some k → (field row 0 ≡ word k) × (is_record format row k ≡ true)
-    tells None named e = absurd (nothing e)
-      where
-        nothing : None ≡ Some k → ⊥
-        nothing e = cc
+    tells None named e = absurd (none-some k e)
     tells (Some j) named e =
         let is = same (is_record format row j) j e in (
           (bytes_eq-Decides (field row 0) (word k)).0 (found_passes (λ i. bytes_eq (field row 0) (word i)) in_turn k (named ∙ ap (λ i. Some i) is.1)),
           subst (λ i. is_record format row i ≡ true) is.1 is.0,
         )
 
+-- a row of a kind has as many fields as the kind
 pub is_wide : (format : ℕ) (row : Row) (k : Kind) → kind_of format row ≡ Some k → length row ≡ width k
 is_wide format row k e = wide k (kind_tells format row k e).1
   where
@@ -65,14 +55,17 @@ pub row_of_one : (row : Row) → length row ≡ 1 → row ≡ field row 0 ∷ []
 row_of_one (a ∷ []) e = refl
 row_of_one _ e = absurd (omega (arith, e))
 
+-- two fields
 pub row_of_two : (row : Row) → length row ≡ 2 → row ≡ field row 0 ∷ field row 1 ∷ []
 row_of_two (a ∷ b ∷ []) e = refl
 row_of_two _ e = absurd (omega (arith, e))
 
+-- three fields
 pub row_of_three : (row : Row) → length row ≡ 3 → row ≡ field row 0 ∷ field row 1 ∷ field row 2 ∷ []
 row_of_three (a ∷ b ∷ c ∷ []) e = refl
 row_of_three _ e = absurd (omega (arith, e))
 
+-- four fields
 pub row_of_four : (row : Row) → length row ≡ 4 → row ≡ field row 0 ∷ field row 1 ∷ field row 2 ∷ field row 3 ∷ []
 row_of_four (a ∷ b ∷ c ∷ d ∷ []) e = refl
 row_of_four _ e = absurd (omega (arith, e))

@@ -2,6 +2,7 @@
 use Rattle.std.proofs.Common.{◌≡◌, ℕ, ◌+◌, ◌==◌, false, cond, List, [], ◌∷◌, ◌++◌, length, Option, Some, None, refl, sym, ap, subst, ◌∙◌, inl, inr, arith, append_assoc, add-zero}
 use Rattle.std.proofs.lemmas.Bool.{both_ways, cases_Bool}
 use Rattle.std.proofs.lemmas.List.{append-nil}
+use Rattle.std.proofs.lemmas.Option.{none-some, same_Some}
 use Rattle.tomo_base.specs.Sets.{one_if}
 use Rattle.rows.specs.Rows.{Row}
 use Rattle.plan_form.specs.declared.kinds.Kind.{Kind}
@@ -13,6 +14,7 @@ unfoldable pub picked : ℕ → Kind → List Row → List Row
 picked format k [] = []
 picked format k (row ∷ rows) = cond (is_kind (kind_of format row) k) (row ∷ []) [] ++ picked format k rows
 
+-- those of two lists
 pub picked-append : (format : ℕ) (k : Kind) (xs ys : List Row) → picked format k (xs ++ ys) ≡ picked format k xs ++ picked format k ys
 unfolding picked
 picked-append format k [] ys = refl
@@ -28,6 +30,7 @@ length-picked format k (row ∷ rows) = elim (cases_Bool (is_kind (kind_of forma
   | inr e ↦ rw e (omega (arith, length-picked format k rows))
 ]
 
+-- those of two lists are counted together
 pub counted-append : (format : ℕ) (k : Kind) (xs ys : List Row) → counted format k (xs ++ ys) ≡ counted format k xs + counted format k ys
 unfolding counted
 counted-append format k [] ys = omega arith
@@ -38,16 +41,19 @@ pub counted-push : (format : ℕ) (k j : Kind) (rows : List Row) (row : Row) →
 unfolding counted
 counted-push format k j rows row e = counted-append format k rows (row ∷ []) ∙ rw e (ap (λ n. counted format k rows + n) (add-zero _))
 
+-- a row more, where it is of the kind
 pub picked-push : (format : ℕ) (k j : Kind) (rows : List Row) (row : Row) → kind_of format row ≡ Some j → picked format k (rows ++ row ∷ []) ≡ picked format k rows ++ cond (place j == place k) (row ∷ []) []
 unfolding picked
 picked-push format k j rows row e = picked-append format k rows (row ∷ []) ∙ rw e (ap (λ t. picked format k rows ++ t) (append-nil _))
 
+-- the last row decides
 pub last_kind-push : (format : ℕ) (rows : List Row) (row : Row) → last_kind format (rows ++ row ∷ []) ≡ kind_of format row
 unfolding last_kind
 last_kind-push format [] row = refl
 last_kind-push format (x ∷ []) row = refl
 last_kind-push format (x ∷ y ∷ rows) row = last_kind-push format (y ∷ rows) row
 
+-- rows after rows
 pub AreNext-append : (format : ℕ) (before xs ys : List Row) → AreNext format before xs → AreNext format (before ++ xs) ys → AreNext format before (xs ++ ys)
 AreNext-append format before [] ys h₁ h₂ = subst (λ b. AreNext format b ys) (append-nil before) h₂
 AreNext-append format before (row ∷ xs) ys h₁ h₂ =
@@ -64,16 +70,11 @@ next_at format before (x ∷ xs) row ys h = subst (λ b. IsNext format b row) (a
 
 -- a row has one kind
 pub same_kind : (o : Option Kind) (j k : Kind) → o ≡ Some j → o ≡ Some k → j ≡ k
-same_kind o j k e h = same (sym e ∙ h)
-  where
-    same : Some j ≡ Some k → j ≡ k
-    same e = cc
+same_kind o j k e h = same_Some j k (sym e ∙ h)
 
+-- a row without a kind is of none
 pub no_kind : (o : Option Kind) (k : Kind) → o ≡ None → o ≡ Some k → ⊥
-no_kind o k e h = nothing (sym e ∙ h)
-  where
-    nothing : None ≡ Some k → ⊥
-    nothing e = cc
+no_kind o k e h = none-some k (sym e ∙ h)
 
 -- a row that follows has no fault
 pub not_both : (format : ℕ) (before : List Row) (row : Row) (why : Why) → IsNext format before row → FaultAt format before row why → ⊥

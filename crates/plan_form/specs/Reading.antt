@@ -46,6 +46,7 @@ abbrev pub may_follow : Option Kind → Kind → Bool
 may_follow None k = place k == 0
 may_follow (Some last) k = nat_lt 0 (place k) && nat_le (place last) (place k)
 
+-- it may come after these rows
 abbrev pub is_in_order : ℕ → List Row → Kind → Bool
 is_in_order format before k = may_follow (last_kind format before) k
 

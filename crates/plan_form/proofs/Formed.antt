@@ -1,5 +1,5 @@
 -- The parts that are made for a plan can be spelled.
-use Rattle.std.proofs.Common.{◌≡◌, ℕ, ◌<◌, ◌≤◌, ◌^◌, Bool, List, [], ◌∷◌, length, map, get_or, sym, subst, arith, All, IsTrue}
+use Rattle.std.proofs.Common.{◌≡◌, ℕ, ◌<◌, ◌≤◌, ◌^◌, Bool, List, [], ◌∷◌, length, map, get_or, sym, subst, arith, All}
 use Rattle.std.proofs.lemmas.List.{get_or_default}
 use Rattle.std.proofs.lemmas.List.Elements.{All-cons, All-map}
 use Rattle.tomo_base.specs.declared.graph.Link.{Link}
@@ -8,32 +8,31 @@ use Rattle.tomo_base.specs.Network.{Network, AreLinks, IsGraph}
 use Rattle.tomo_base.specs.Walks.{StepsFrom}
 use Rattle.tomo_base.specs.Identify.{IsMonitorPath}
 use Rattle.tomo_base.proofs.Links.{linked_below}
-use Rattle.topology.specs.Names.{is_name}
 use Rattle.topology.specs.Topology.{Topo, IsTopology}
 use Rattle.simple_path.specs.declared.recipe.Term.{Term}
 use Rattle.plan_form.specs.declared.plan.HeldPocket.{HeldPocket}
 use Rattle.plan_form.specs.Building.{IsBuilt}
 use Rattle.plan_form.specs.Buildable.{IsBuildable, IsShort, as_part}
 use Rattle.plan_form.specs.Held.{part_of}
-use Rattle.plan_form.specs.Parts.{PlanPocket, IsSmall, IsNodeList, IsTermList}
+use Rattle.plan_form.specs.Parts.{PlanPocket, IsSmall, IsNodeList, IsTermList, IsName, IsSmallLink, IsSmallPocket}
 use Rattle.plan_form.proofs.Built.{rewritten_within}
 
 -- the names of a topology
-pub names_formed : (t : Topo) → IsTopology t → All (λ n. IsTrue (is_name n)) t.names
+pub names_formed : (t : Topo) → IsTopology t → All IsName t.names
 names_formed t is = is.named
 
 -- the ends of links of few nodes are small
-links_below : (n : ℕ) (links : List Link) → n ≤ 1000 → AreLinks n links → All (λ l. IsSmall l.a × IsSmall l.b) links
+links_below : (n : ℕ) (links : List Link) → n ≤ 1000 → AreLinks n links → All IsSmallLink links
 links_below n [] few are = λ k d l. absurd (omega (arith, l))
-links_below n (link ∷ links) few are = All-cons (λ (l : Link). IsSmall l.a × IsSmall l.b) link links (omega (arith, are.0, are.1, few), omega (arith, are.1, few)) (links_below n links few are.3)
+links_below n (link ∷ links) few are = All-cons IsSmallLink link links (omega (arith, are.0, are.1, few), omega (arith, are.1, few)) (links_below n links few are.3)
 
 -- its links
-pub links_formed : (t : Topo) → IsTopology t → All (λ l. IsSmall l.a × IsSmall l.b) t.graph.links
+pub links_formed : (t : Topo) → IsTopology t → All IsSmallLink t.graph.links
 links_formed t is = links_below t.graph.nodes t.graph.links is.few_nodes is.graph
 
 -- pockets, as a plan keeps them
 pub pockets_formed : (held : List HeldPocket) (given : List Pocket) → All (λ k. IsSmall k.need × All IsSmall k.nodes.items) held → map part_of held ≡ map as_part given → All (λ k. 0 < length k.nodes) given
-    → All (λ k. IsSmall k.need × IsNodeList k.nodes) (map part_of held)
+    → All IsSmallPocket (map part_of held)
 pockets_formed held given small same filled k d l =
     let numbers = All-map (λ (p : PlanPocket). IsSmall p.need × All IsSmall p.nodes) part_of held small k d l in
     let some = subst (All (λ (p : PlanPocket). 0 < length p.nodes)) (sym same) (All-map (λ (p : PlanPocket). 0 < length p.nodes) as_part given filled) k d l in

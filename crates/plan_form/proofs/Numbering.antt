@@ -6,7 +6,7 @@ use Rattle.plan_form.specs.PlanRows.{numbered, AddsRows, plan_rows, row_count}
 use Rattle.plan_form.specs.Parts.{PlanParts}
 
 -- a row more at the end has the next number
-numbered-push : {A : Type 0} (f : ℕ → A → Row) (i : ℕ) (xs : List A) (x : A) → numbered f i (xs ++ x ∷ []) ≡ numbered f i xs ++ f (i + length xs) x ∷ []
+pub numbered-push : {A : Type 0} (f : ℕ → A → Row) (i : ℕ) (xs : List A) (x : A) → numbered f i (xs ++ x ∷ []) ≡ numbered f i xs ++ f (i + length xs) x ∷ []
 unfolding numbered
 numbered-push f i [] x = (let e : i + 0 ≡ i = omega arith in rw e refl)
 numbered-push f i (y ∷ ys) x =
@@ -54,10 +54,10 @@ added_all f xs old i now l added = (added.closed ∙ ap (λ ys. old.closed ++ nu
 -- rows that were added in turn are the rows of the whole
 pub added_in_turn : (r₀ r₁ r₂ r₃ r₄ r₅ r₆ r₇ r₈ : RowList) (first last : Row) (names links monitors pockets paths recipes : List Row) → r₀ ≡ record { closed = []; current = [] }
     → AddsRows r₀ r₁ (first ∷ []) → AddsRows r₁ r₂ names → AddsRows r₂ r₃ links → AddsRows r₃ r₄ monitors → AddsRows r₄ r₅ pockets → AddsRows r₅ r₆ paths → AddsRows r₆ r₇ recipes → AddsRows r₇ r₈ (last ∷ [])
-    → r₈ ≡ record { closed = (first ∷ names ++ (links ++ (monitors ++ (pockets ++ (paths ++ recipes))))) ++ last ∷ []; current = [] }
+    → r₈ ≡ record { closed = first ∷ names ++ (links ++ (monitors ++ (pockets ++ (paths ++ (recipes ++ last ∷ []))))); current = [] }
 added_in_turn r₀ r₁ r₂ r₃ r₄ r₅ r₆ r₇ r₈ first last names links monitors pockets paths recipes none a b c d e f g h =
     let start : r₀.closed ≡ [] = ap (λ (r : RowList). r.closed) none in
-    let closed : r₈.closed ≡ (first ∷ names ++ (links ++ (monitors ++ (pockets ++ (paths ++ recipes))))) ++ last ∷ [] =
+    let closed : r₈.closed ≡ first ∷ names ++ (links ++ (monitors ++ (pockets ++ (paths ++ (recipes ++ last ∷ []))))) =
     rw (h.0, g.0, f.0, e.0, d.0, c.0, b.0, a.0, start) (simp append_assoc) in
     λ i. record { closed = closed i; current = h.1 i }
 

@@ -7,3 +7,8 @@ pub mod Good
 pub mod Held
 pub mod Buildable
 pub mod Steps
+pub mod Kinds
+pub mod Values
+pub mod Reading
+pub mod Laws
+pub mod Taking

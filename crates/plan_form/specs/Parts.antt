@@ -31,16 +31,32 @@ abbrev pub IsCoefficient : ℤ → Type 0
 IsCoefficient (pos n) = (0 < n) × (n ≤ 4)
 IsCoefficient (negsuc n) = n < 4
 
+-- such a coefficient, and a path number of 32 bits
+abbrev pub IsTerm : Term → Type 0
+IsTerm t = IsCoefficient t.coef × IsSmall t.path
+
 -- 1 to 16 terms
 abbrev pub IsTermList : List Term → Type 0
-IsTermList terms = (0 < length terms) × (length terms ≤ 16) × All (λ t. IsCoefficient t.coef × IsSmall t.path) terms
+IsTermList terms = (0 < length terms) × (length terms ≤ 16) × All IsTerm terms
+
+-- a name, as a topology's
+abbrev pub IsName : List ℕ → Type 0
+IsName name = IsTrue (is_name name)
+
+-- a link between two numbers of 32 bits
+abbrev pub IsSmallLink : Link → Type 0
+IsSmallLink l = IsSmall l.a × IsSmall l.b
+
+-- a pocket with a need of 32 bits, and one or more nodes
+abbrev pub IsSmallPocket : PlanPocket → Type 0
+IsSmallPocket k = IsSmall k.need × IsNodeList k.nodes
 
 -- well formed: each part can be spelled
 pub record IsWellFormed (p : PlanParts) : Type 0 where
-  pub names : All (λ n. IsTrue (is_name n)) p.names
-  pub links : All (λ l. IsSmall l.a × IsSmall l.b) p.links
+  pub names : All IsName p.names
+  pub links : All IsSmallLink p.links
   pub monitors : All IsSmall p.monitors
-  pub pockets : All (λ k. IsSmall k.need × IsNodeList k.nodes) p.pockets
+  pub pockets : All IsSmallPocket p.pockets
   pub paths : All IsNodeList p.paths
   pub recipes : All IsTermList p.recipes
   pub few_names : length p.names < 2 ^ 32

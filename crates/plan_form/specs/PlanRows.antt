@@ -1,8 +1,11 @@
 -- The rows of a plan: one row for each part, in the order of the table, each spelled in one way.
-use Rattle.std.specs.Prelude.{ℕ, ◌≡◌, ◌+◌, List, [], ◌∷◌, ◌++◌, map, length, decimal, codes}
+use Rattle.std.specs.Prelude.{ℕ, ◌≡◌, ◌+◌, List, [], ◌∷◌, ◌++◌, map, flat_map, length, decimal, codes}
 use Rattle.tomo_base.specs.declared.graph.Link.{Link}
 use Rattle.simple_path.specs.declared.recipe.Term.{Term}
 use Rattle.rows.specs.Rows.{Row, RowList}
+use Rattle.plan_form.specs.declared.kinds.Kind.{Kind}
+use Rattle.plan_form.specs.declared.kinds.Kind.TheVariants as kinds
+use Rattle.plan_form.specs.Kinds.{in_turn}
 use Rattle.plan_form.specs.Spelling.{numbers_text, terms_text}
 use Rattle.plan_form.specs.Parts.{PlanPocket, PlanParts}
 
@@ -35,14 +38,20 @@ unfoldable pub numbered : {A : Type 0} → (ℕ → A → Row) → ℕ → List 
 numbered f i [] = []
 numbered f i (x ∷ xs) = f i x ∷ numbered f (i + 1) xs
 
--- the rows of a plan but the last
-abbrev pub body_rows : ℕ → PlanParts → List Row
-body_rows format p =
-    plan_row format ∷ numbered node_row 0 p.names ++ (numbered link_row 0 p.links ++ (map monitor_row p.monitors ++ (numbered pocket_row 0 p.pockets ++ (numbered path_row 0 p.paths ++ numbered recipe_row 0 p.recipes))))
+-- the rows of one kind
+abbrev pub rows_of_kind : ℕ → PlanParts → Kind → List Row
+rows_of_kind format p kinds.Plan = plan_row format ∷ []
+rows_of_kind format p kinds.Node = numbered node_row 0 p.names
+rows_of_kind format p kinds.Link = numbered link_row 0 p.links
+rows_of_kind format p kinds.Monitor = map monitor_row p.monitors
+rows_of_kind format p kinds.Pocket = numbered pocket_row 0 p.pockets
+rows_of_kind format p kinds.Path = numbered path_row 0 p.paths
+rows_of_kind format p kinds.Recipe = numbered recipe_row 0 p.recipes
+rows_of_kind format p kinds.End = end_row ∷ []
 
--- the rows of a plan in a format
+-- the rows of a plan in a format: those of each kind in turn
 abbrev pub rows_in : ℕ → PlanParts → List Row
-rows_in format p = body_rows format p ++ end_row ∷ []
+rows_in format p = flat_map (rows_of_kind format p) in_turn
 
 -- the rows of a plan
 abbrev pub plan_rows : PlanParts → List Row

@@ -4,10 +4,21 @@
 mod build;
 mod copies;
 mod directions;
+mod faults;
+mod kinds;
+pub mod laws;
+mod lists;
+mod numerals;
 mod order;
 mod plan;
+mod read;
 mod sums;
 mod write;
 
+pub use faults::PlanFault;
 pub use plan::Plan;
+pub use read::read_plan;
 pub use write::plan_rows;
+
+#[cfg(test)]
+mod tests;

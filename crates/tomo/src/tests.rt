@@ -91,7 +91,7 @@ fn other_topologies_are_refused(rt: HostRuntime) -> Result<(), Fail> {
     let plan = ["plan", "t"];
     let refused = (Status::BadInput, true);
     let long = chain(alloc, 1000)?;
-    let refusals: [(&[u8], &[u8]); 10] = [
+    let refusals: [(&[u8], &[u8]); 8] = [
         (b"", b"refused,t,few,0\n"),
         (b"a,b\n", b"refused,t,few,2\n"),
         (b"a,b\nb\n", b"refused,t,width,2\n"),
@@ -99,8 +99,6 @@ fn other_topologies_are_refused(rt: HostRuntime) -> Result<(), Fail> {
         (b"a,b\nb,c\nc,c\n", b"refused,t,loop,3\n"),
         (long.as_bytes(), b"refused,t,nodes,1000\n"),
         (b"a,b\nc,d\n", b"refused,t,apart,c\n"),
-        (b"a,b\nc,\"d,e\"\na,c\na,\"d,e\"\n", b"refused,t,degree,a\n"),
-        (b"x,a\nx,b\nx,c\na,b\na,c\n", b"refused,t,degree,x\n"),
         (b"a,b\nb,b\nc\n", b"refused,t,loop,2\n"),
     ];
     for (content, written) in refusals {
@@ -142,6 +140,48 @@ fn monitors_are_judged(rt: HostRuntime) -> Result<(), Fail> {
             b"refused,t,few,2\n"
         )?,
         (Status::BadInput, true)
+    );
+    Ok(())
+}
+
+#[test]
+fn paths_and_links_for_given_monitors(rt: HostRuntime) -> Result<(), Fail> {
+    let alloc = rt.alloc();
+    let star = b"c,x\nc,y\nc,z\n".as_slice();
+    let files = [("t", star), ("m", b"x\ny\nz\n".as_slice())];
+    let plan =
+        b"plan,1\nnode,0,c\nnode,1,x\nnode,2,y\nnode,3,z\nlink,0,0,1\nlink,1,0,2\nlink,2,0,3\nmonitor,1\nmonitor,2\nmonitor,3\n\
+        path,0,1 0 2\npath,1,1 0 3\npath,2,2 0 3\nrecipe,0,1:0 1:1 -1:2\nrecipe,1,1:0 -1:1 1:2\nrecipe,2,-1:0 1:1 1:2\nend\n";
+    let done = (Status::Done, true);
+    assert_eq!(rt; run_over(alloc, &["paths", "t", "m"], &files, plan)?, done);
+    let terms = b"term,1,x,c,y\nterm,1,x,c,z\nterm,-1,y,c,z\n";
+    assert_eq!(rt;
+        run_over(alloc, &["link", "t", "m", "c", "x"], &files, terms)?,
+        done
+    );
+    assert_eq!(rt;
+        run_over(alloc, &["link", "t", "m", "x", "c"], &files, terms)?,
+        done
+    );
+    let refused = (Status::BadInput, true);
+    let refusals: [(&str, &str, &[u8]); 3] = [
+        ("q", "x", b"refused,q,node,a\n"),
+        ("x", "q", b"refused,q,node,b\n"),
+        ("x", "y", b"refused,x,unlinked,y\n"),
+    ];
+    for (a, b, written) in refusals {
+        let words = ["link", "t", "m", a, b];
+        assert_eq!(rt; run_over(alloc, &words, &files, written)?, refused);
+    }
+    let few = [("t", star), ("m", b"x\ny\n".as_slice())];
+    let bad = (Status::Negative, true);
+    assert_eq!(rt;
+        run_over(alloc, &["paths", "t", "m"], &few, b"bad,c,z\n")?,
+        bad
+    );
+    assert_eq!(rt;
+        run_over(alloc, &["link", "t", "m", "c", "x"], &few, b"bad,c,z\n")?,
+        bad
     );
     Ok(())
 }

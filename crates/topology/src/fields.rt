@@ -45,16 +45,22 @@ fn trimmed(field: &[u8]) -> &[u8]
     without_last_blanks(without_first_blanks(field))
 }
 
-/// The name in a field: what it holds without the spaces and tabs at its ends, where that is 1 to 64
-/// bytes of UTF-8.
+/// The bytes as a name, where they are one: 1 to 64 bytes of UTF-8. It takes no memory.
+pub fn as_name(bytes: &[u8]) -> Option<&str>
+    ensures name { IfSome result (λ name. (name.now ≡ bytes.now) × IsTrue (is_name name.now)) }
+    ensures none { IfNone result (is_name bytes.now ≡ false) }
+{
+    if bytes.is_empty() || bytes.len() > NAME_LIMIT {
+        return None;
+    }
+    str::from_utf8(bytes).ok()
+}
+
+/// The name in a field: what it holds without the spaces and tabs at its ends, where that is one.
 pub(crate) fn name_in(field: &[u8]) -> Option<&str>
     ensures name { IfSome result (λ name.
         (name.now ≡ spec.trimmed field.now) × IsTrue (is_name name.now)) }
     ensures none { IfNone result (is_name (spec.trimmed field.now) ≡ false) }
 {
-    let bytes = trimmed(field);
-    if bytes.is_empty() || bytes.len() > NAME_LIMIT {
-        return None;
-    }
-    str::from_utf8(bytes).ok()
+    as_name(trimmed(field))
 }

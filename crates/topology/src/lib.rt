@@ -11,6 +11,7 @@ mod naming;
 mod topology;
 
 pub use faults::{MonFault, TopoFault};
+pub use fields::as_name;
 pub use monitors::read_monitors;
 pub use naming::nth_name;
 pub use topology::{Topology, read_topology};

@@ -7,3 +7,4 @@ pub mod Tallies
 pub mod Built
 pub mod Formed
 pub mod Copying
+pub mod Recipes

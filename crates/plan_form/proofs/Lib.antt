@@ -26,3 +26,4 @@ pub mod Growing
 pub mod Bytes
 pub mod Reader
 pub mod Ending
+pub mod Recipes

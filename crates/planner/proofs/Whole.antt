@@ -23,20 +23,10 @@ use Rattle.plan_form.specs.PlanRows.{row_count}
 use Rattle.plan_form.specs.Building.{IsBuilt}
 use Rattle.plan_form.specs.Buildable.{as_part}
 use Rattle.plan_form.specs.Good.{AreGoodPaths, IsGoodPocket, AreGoodPockets, AreGoodRecipes, IsGoodRecipe, IsGoodPlan, pocket_sets}
+use Rattle.plan_form.proofs.Recipes.{good_recipes_are}
 use Rattle.planner.specs.Measures.{AreMeasures}
 use Rattle.planner.specs.Planned.{IsPlanned, IsPlanFor}
 use Rattle.planner.proofs.Buildable.{stays_few}
-
--- terms over paths of a list have these paths
-terms_in : (paths : List (List ℕ)) (terms : List Term) → All (λ t. t.path < length paths) terms → All (λ t. Contains paths t.1) (path_terms paths terms)
-terms_in paths [] each = λ k d l. absurd (omega (arith, l))
-terms_in paths (t ∷ ts) each = All-cons (λ (u : ℤ × List ℕ). Contains paths u.1) (t.coef, get_or paths t.path []) (path_terms paths ts) (Contains-get_or paths t.path [] (each 0 t (omega arith))) (terms_in paths ts (All-tail (λ (u : Term). u.path < length paths) t ts each))
-
--- good recipes for all links identify every link
-good_recipes_identify : (g : Network) (paths : List (List ℕ)) (recipes : List (List Term)) → AreGoodRecipes g paths recipes → Identified g paths
-good_recipes_identify g paths recipes good = recipes_identify g paths (λ i l.
-    let one : IsGoodRecipe g paths i (get_or recipes i []) = good.each i (omega (arith, l, good.one_each)) in
-    (path_terms paths (get_or recipes i []), terms_in paths (get_or recipes i []) one.names, one.recipe))
 
 -- the sets of a plan's pockets are those of the given pockets
 sets_same : (pockets : List Pocket) → pocket_sets (map as_part pockets) ≡ sets_of pockets
@@ -139,7 +129,7 @@ module _ (t : Topo) (m : List ℕ) (pockets : List Pocket) (topo : IsTopology t)
         lowest = rw made.monitors lowest;
         homes = rw (made.monitors, sets) homes;
         few_paths = omega (arith, made.few_paths, ap (λ xs. length xs) made.links);
-        identified = good_recipes_identify t.graph p.paths p.recipes made.recipes;
+        identified = recipes_identify t.graph p.paths (good_recipes_are t.graph p.paths p.recipes made.recipes);
         shown = rw (made.monitors, sets) shows;
         least = λ s other. rw made.monitors (pockets_bound t.graph s (sets_of pockets) (length m) topo.graph topo.connected (omega (arith, topo.some_nodes)) shows other);
       }
@@ -165,7 +155,7 @@ all_planned_for t m (Ok p) topo below up made = (
     no_pockets = made.same_pockets;
     few_paths = omega (arith, made.few_paths, ap (λ xs. length xs) made.links);
     few_terms = made.few_terms;
-    identified = good_recipes_identify t.graph p.paths p.recipes made.recipes;
+    identified = recipes_identify t.graph p.paths (good_recipes_are t.graph p.paths p.recipes made.recipes);
   },
   made_few t m [] p topo made below up (omega arith),
 )

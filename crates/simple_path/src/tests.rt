@@ -1,6 +1,7 @@
-// Pools and recipes grow where memory is ample.
-use crate::{PathPool, Recipe, Recipes, Term};
+// Pools and recipes grow where memory is ample, and monitor paths are told from other lists.
+use crate::{PathPool, Recipe, Recipes, Term, is_monitor_path};
 use std::test::Fail;
+use tomo_base::{Graph, Link, NodeSet};
 
 #[test]
 fn pools_and_recipes_grow(rt: HostRuntime) -> Result<(), Fail> {
@@ -21,5 +22,26 @@ fn pools_and_recipes_grow(rt: HostRuntime) -> Result<(), Fail> {
         recipes.at(0).terms(),
         [Term { coef: 2, path: 0 }].as_slice()
     );
+    Ok(())
+}
+
+#[test]
+fn monitor_paths_are_told(rt: HostRuntime) -> Result<(), Fail> {
+    let alloc = rt.alloc();
+    let links = [
+        Link { a: 0, b: 1 },
+        Link { a: 0, b: 2 },
+        Link { a: 1, b: 2 },
+    ];
+    let g = Graph::new(alloc, 3, &links).expect(&rt, "no graph");
+    let mut m = NodeSet::new(alloc);
+    m.insert(0)?;
+    m.insert(1)?;
+    assert!(rt; is_monitor_path(&g, &m, &[1, 2, 0]));
+    assert!(rt; is_monitor_path(&g, &m, &[0, 1]));
+    assert!(rt; !is_monitor_path(&g, &m, &[0, 2]));
+    assert!(rt; !is_monitor_path(&g, &m, &[0, 2, 0, 1]));
+    assert!(rt; !is_monitor_path(&g, &m, &[0, 9, 1]));
+    assert!(rt; !is_monitor_path(&g, &m, &[0]));
     Ok(())
 }

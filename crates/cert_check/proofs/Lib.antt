@@ -1,0 +1,6 @@
+pub mod Places
+pub mod Seen
+pub mod Turns
+pub mod Uses
+pub mod Balances
+pub mod Wholes

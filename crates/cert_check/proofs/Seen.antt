@@ -1,0 +1,106 @@
+-- Pockets that share no node.
+use Rattle.std.proofs.Common.{refl, ◌≡◌, ◌<◌, ◌+◌, ◌==◌, ◌||◌, [], ℕ, Bool, true, false, List, length, take, get_or, All, IsTrue, sym, ap, subst, ◌∙◌, inl, inr, arith}
+use Rattle.std.specs.List.Sorted.{IsStrictlyIncreasing}
+use Rattle.std.proofs.lemmas.List.{get_or-take, length-take}
+use Rattle.std.proofs.lemmas.Bool.{cases_Bool, cases_eq, cases_lt, both_ways, or_cases, or_parts}
+use Rattle.std.proofs.lemmas.List.Kept.{AllPairs-from_increasing}
+use Rattle.tomo_base.specs.Network.{Network, IsGraph}
+use Rattle.tomo_base.specs.Sets.{has, size, outside}
+use Rattle.tomo_base.proofs.Ascending.{All-has, All-from_has, has-more, same_list, place_in}
+use Rattle.tomo_base.proofs.Counts.{count-same}
+use Rattle.tomo_base.proofs.Members.{count-has}
+use Rattle.tomo_base.proofs.Touching.{outside_below}
+use Rattle.plan_form.specs.Parts.{PlanPocket}
+use Rattle.plan_form.specs.Good.{IsGoodPocket}
+use Rattle.cert_check.specs.Faults.{pocket_at, IsGoodPocketAt}
+
+-- a front of an ascending list ascends
+taken_ascends : (xs : List ℕ) (n : ℕ) → IsStrictlyIncreasing xs → IsStrictlyIncreasing (take n xs)
+taken_ascends xs n up k l =
+    let long = length-take n xs in
+    let below : k + 1 < n = omega (arith, l, long) in
+    rw (get_or-take n xs k 0 (omega (arith, below)), get_or-take n xs (k + 1) 0 below) (up k (omega (arith, l, long)))
+
+-- a set with one node more of an ascending list
+pub set_more : (nodes old new : List ℕ) (i d v : ℕ) → IsStrictlyIncreasing nodes → i < length nodes → v ≡ get_or nodes i d → old ≡ take i nodes → IsStrictlyIncreasing new → ((w : ℕ) → has new w ≡ ((v == w) || has old w)) → new ≡ take (i + 1) nodes
+set_more nodes old new i d v up l at was ascends is = same_list new (take (i + 1) nodes) ascends (taken_ascends nodes (i + 1) up)
+    (λ w. is w ∙ has-more (has old) (λ u. false) nodes i d v w l at (ap (λ xs. has xs w) was))
+
+-- so many outside neighbours as the set of them has nodes
+pub outside_few : (g : Network) (nodes out : List ℕ) → IsGraph g → IsStrictlyIncreasing out → ((w : ℕ) → has out w ≡ outside g (has nodes) w) → size g (outside g (has nodes)) ≡ length out
+outside_few g nodes out graph up is =
+    sym (count-same g.nodes (has out) (outside g (has nodes)) (λ v l. is v)) ∙ count-has g.nodes out up (All-from_has (λ v. v < g.nodes) out (λ v there. below v there))
+  where
+    below : (v : ℕ) → has out v ≡ true → v < g.nodes
+    below v there = elim (cases_lt v g.nodes) [
+      | inl in_g ↦ in_g
+      | inr past ↦ absurd (both_ways _ (outside_below g (has nodes) v graph past) (sym (is v) ∙ there))
+    ]
+
+-- the list has exactly the nodes of the first i pockets
+abbrev pub IsSeen : List PlanPocket → ℕ → List ℕ → Type 0
+IsSeen pockets i seen = (w : ℕ) → (IsTrue (has seen w) → (j : ℕ) × (j < i) × IsTrue (has (pocket_at pockets j).nodes w)) × ((j : ℕ) → j < i → IsTrue (has (pocket_at pockets j).nodes w) → IsTrue (has seen w))
+
+-- at first it has none
+pub seen_none : (pockets : List PlanPocket) (seen : List ℕ) → seen ≡ [] → IsSeen pockets 0 seen
+unfolding has
+seen_none pockets seen bare w = (λ there. absurd (both_ways false refl (subst (λ xs. has xs w ≡ true) bare there)), λ j l. absurd (omega (arith, l)))
+
+-- with the nodes of one pocket more
+pub seen_more : (pockets : List PlanPocket) (i : ℕ) (old new : List ℕ) → IsSeen pockets i old → ((w : ℕ) → has new w ≡ (has old w || has (pocket_at pockets i).nodes w)) → IsSeen pockets (i + 1) new
+seen_more pockets i old new seen is w = (
+  λ there. elim (or_cases (has old w) (has (pocket_at pockets i).nodes w) (sym (is w) ∙ there)) [
+    | inl before ↦ let at = (seen w).0 before in (at.0, omega (arith, at.1), at.2)
+    | inr here ↦ (i, omega arith, here)
+  ],
+  λ j l there. elim (cases_eq j i) [
+    | inl same ↦ is w ∙ right (has old w) _ (subst (λ k. has (pocket_at pockets k).nodes w ≡ true) same there)
+    | inr other ↦ is w ∙ left (has old w) _ ((seen w).1 j (omega (arith, l, other)) there)
+  ],
+)
+  where
+    right : (a b : Bool) → b ≡ true → (a || b) ≡ true
+    right a b e = grind arith
+
+    left : (a b : Bool) → a ≡ true → (a || b) ≡ true
+    left a b e = grind arith
+
+-- a good pocket with new nodes is good at its place
+pub good_at : (g : Network) (pockets : List PlanPocket) (i : ℕ) (seen : List ℕ) → IsSeen pockets i seen → IsGoodPocket g (pocket_at pockets i) → All (λ v. has seen v ≡ false) (pocket_at pockets i).nodes → IsGoodPocketAt g pockets i
+good_at g pockets i seen is good new = record {
+  good = good;
+  apart = λ j l v node there. elim (cases_Bool (has (pocket_at pockets i).nodes v)) [
+    | inl here ↦ absurd (both_ways _ (All-has (λ u. has seen u ≡ false) (pocket_at pockets i).nodes new v here) ((is v).1 j l there))
+    | inr out ↦ out
+  ];
+}
+
+-- one that is good at its place has new nodes
+pub new_at : (g : Network) (pockets : List PlanPocket) (i : ℕ) (seen : List ℕ) → IsSeen pockets i seen → IsGoodPocketAt g pockets i → All (λ v. has seen v ≡ false) (pocket_at pockets i).nodes
+new_at g pockets i seen is at = All-from_has (λ v. has seen v ≡ false) (pocket_at pockets i).nodes (λ v here. elim (cases_Bool (has seen v)) [
+  | inl there ↦
+      let before = (is v).0 there in
+      absurd (both_ways _ (at.apart before.0 before.1 v (All-has (λ u. u < g.nodes) (pocket_at pockets i).nodes at.good.nodes v here) before.2) here)
+  | inr new ↦ new
+])
+
+-- a node that was not in the set is not among those that were put into it before, where the nodes ascend
+pub still_new : (nodes old seen : List ℕ) (i : ℕ) → IsStrictlyIncreasing nodes → i < length nodes → ((w : ℕ) → has seen w ≡ (has old w || has (take i nodes) w)) → has old (get_or nodes i 0) ≡ false → has seen (get_or nodes i 0) ≡ false
+still_new nodes old seen i up l is new = is (get_or nodes i 0) ∙ neither _ _ new (later (get_or nodes i 0) refl)
+  where
+    neither : (a b : Bool) → a ≡ false → b ≡ false → (a || b) ≡ false
+    neither a b e f = grind arith
+
+    later : (v : ℕ) → v ≡ get_or nodes i 0 → has (take i nodes) v ≡ false
+    later v same = elim (cases_Bool (has (take i nodes) v)) [
+      | inl there ↦
+          let at = place_in (take i nodes) v there in
+          let below : at.0 < i = omega (arith, at.1, length-take i nodes) in
+          let taken : get_or nodes at.0 0 ≡ v = sym (get_or-take i nodes at.0 0 below) ∙ at.2 in
+          absurd (omega (arith, AllPairs-from_increasing nodes up at.0 i 0 below l, taken, same))
+      | inr out ↦ out
+    ]
+
+-- a node that is new to the set was not in it at first
+pub been_there : (nodes old seen : List ℕ) (i : ℕ) → ((w : ℕ) → has seen w ≡ (has old w || has (take i nodes) w)) → has seen (get_or nodes i 0) ≡ false → has old (get_or nodes i 0) ≡ false
+been_there nodes old seen i is new = (or_parts (has old (get_or nodes i 0)) (has (take i nodes) (get_or nodes i 0)) (sym (is (get_or nodes i 0)) ∙ new)).0

@@ -1,1 +1,3 @@
 pub mod Pools
+pub mod Along
+pub mod Short

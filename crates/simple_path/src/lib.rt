@@ -3,8 +3,10 @@
 
 mod path_pool;
 mod recipe;
+mod sums;
 #[cfg(test)]
 mod tests;
 
 pub use path_pool::PathPool;
 pub use recipe::{Recipe, Recipes, Term};
+pub use sums::sum_along;

@@ -1,5 +1,5 @@
-use Rattle.topology.specs.Names.{trimmed}
-use Rattle.topology.proofs.fields.trimmed.Goals as goal
+use Rattle.rows.specs.Blanks.{trimmed}
+use Rattle.rows.proofs.trim.trimmed.Goals as goal
 
 pub returns : goal.returns
 unfolding trimmed

@@ -1,7 +1,7 @@
 use Rattle.std.proofs.Common.{◌<◌, length, reverse, arith, ap, sym, ◌∙◌}
 use Rattle.std.proofs.lemmas.Bool.Decides.{nat_tests}
-use Rattle.topology.proofs.Blanks.{last_goes, last_stays, none_stay_last}
-use Rattle.topology.proofs.fields.without_last_blanks.Goals as goal
+use Rattle.rows.proofs.Blanks.{last_goes, last_stays, none_stay_last}
+use Rattle.rows.proofs.trim.without_last_blanks.Goals as goal
 
 pub loop-rest-preserved : goal.loop-rest-preserved
 loop-rest-preserved c = last_goes c.loop-rest.rest.now c.in-len1-up.len_at_least (sym c.is_blank.ensures ∙ c.if-is_blank.true) ∙ c.loop-rest.invariant

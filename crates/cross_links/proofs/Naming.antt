@@ -1,25 +1,19 @@
 -- Terms that name paths added to a pool are a recipe where the wanted terms are, and how much the pool holds then.
-use Rattle.std.proofs.Common.{take, drop, ◌-◌, ℕ, zero, suc, ◌+◌, ◌*◌, ◌<◌, ◌≤◌, ◌≡◌, Bool, true, List, [], ◌∷◌, ◌++◌, length, get_or, ℤ, All, refl, sym, ap, ap₂, subst, ◌∙◌, inl, inr, arith, length-append}
-use Rattle.std.proofs.lemmas.Bool.{both_ways}
+use Rattle.std.proofs.Common.{take, drop, ◌-◌, ℕ, zero, suc, ◌+◌, ◌*◌, ◌<◌, ◌≤◌, ◌≡◌, Bool, List, [], ◌∷◌, ◌++◌, length, get_or, ℤ, All, refl, sym, ap, ap₂, subst, ◌∙◌, arith, length-append}
 use Rattle.std.proofs.lemmas.List.{append_assoc, length-map, get_or-append-add}
 use Rattle.std.proofs.lemmas.List.Elements.{All-map, All-tail}
-use Rattle.std.proofs.lemmas.Map.Steps.{length-le_from_distinct_below}
 use Rattle.tomo_base.specs.Network.{Network, IsGraph}
-use Rattle.tomo_base.specs.Sets.{has}
-use Rattle.tomo_base.specs.Walks.{StepsFrom}
 use Rattle.tomo_base.specs.Identify.{IsMonitorPath}
-use Rattle.tomo_base.proofs.Links.{linked_below}
 use Rattle.simple_path.specs.declared.recipe.Term.{Term}
 use Rattle.simple_path.specs.Terms.{path_terms}
 use Rattle.simple_path.specs.Pools.{nodes_in}
 use Rattle.simple_path.proofs.Pools.{nodes_in-append}
-use Rattle.unit_flow.proofs.Bridge.{has_same, distinct_of}
+use Rattle.simple_path.proofs.Short.{walk_short}
 use Rattle.cross_links.specs.CrossRecipe.{IsCrossRecipe, AddsRecipe}
 use Rattle.cross_links.specs.Joining.{turned_onto, numbered, paths_of, Names}
 use Rattle.unit_flow.specs.Flows.{later_of}
 use Rattle.cross_links.proofs.Found.{rest_from}
 use Rattle.cross_links.proofs.Turned.{length-turned_onto}
-use Rattle.cross_links.proofs.Members.{has_none, has_cases}
 
 -- ---- what the terms are
 -- as many terms as wanted
@@ -43,21 +37,11 @@ named_terms front (t ∷ ts) =
     ap₂ (λ l k. path_terms l (numbered k ts)) (sym (append_assoc front (t.1 ∷ []) (paths_of ts))) (sym more) ∙ named_terms (front ++ t.1 ∷ []) ts in
     ap₂ (λ p l. (t.0, p) ∷ l) at rest
 
--- the nodes of a walk with a step are nodes
-walk_below : (g : Network) (x : ℕ) (p : List ℕ) → IsGraph g → StepsFrom g x p → x < g.nodes → (v : ℕ) → has (x ∷ p) v ≡ true → v < g.nodes
-walk_below g x [] graph steps l v h = elim (has_cases x [] v h) [ inl e ↦ subst (λ z. z < g.nodes) e l | inr e ↦ absurd (both_ways (has [] v) (has_none v) e) ]
-walk_below g x (y ∷ p) graph steps l v h = elim (has_cases x (y ∷ p) v h) [
-  | inl e ↦ subst (λ z. z < g.nodes) e l
-  | inr e ↦ walk_below g y p graph steps.1 (linked_below g.nodes g.links x y graph steps.0).1 v e
-]
-
 -- a monitor path has no more nodes than the graph
 pub path_short : (g : Network) (m : ℕ → Bool) (p : List ℕ) → IsGraph g → IsMonitorPath g m p → length p ≤ g.nodes
 path_short g m [] graph path = omega arith
 path_short g m (x ∷ []) graph path = absurd (let two = path.two in omega (arith, two))
-path_short g m (x ∷ y ∷ p) graph path =
-    let low = walk_below g x (y ∷ p) graph path.linked (linked_below g.nodes g.links x y graph path.linked.0).0 in
-    length-le_from_distinct_below (x ∷ y ∷ p) g.nodes (distinct_of (x ∷ y ∷ p) path.different) (λ v h. low v (has_same (x ∷ y ∷ p) v ∙ h))
+path_short g m (x ∷ y ∷ p) graph path = walk_short g x y p graph path.linked path.different
 
 -- the terms are a recipe where those that were wanted are
 pub names_recipe : (g : Network) (m : ℕ → Bool) (i : ℕ) (old new : List (List ℕ)) (terms : List Term) (wanted : List (ℤ × List ℕ)) → IsGraph g → Names old new terms wanted → IsCrossRecipe g m i wanted → AddsRecipe g m i old new terms

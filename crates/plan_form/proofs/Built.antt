@@ -9,14 +9,14 @@ use Rattle.std.specs.Global.{Global}
 use Rattle.std.proofs.lemmas.Bool.{cases_lt}
 use Rattle.tomo_base.specs.Network.{Network}
 use Rattle.tomo_base.specs.Identify.{IsMonitorPath}
-use Rattle.simple_path.specs.Terms.{path_terms}
+use Rattle.simple_path.specs.Terms.{path_terms, weighted_by}
 use Rattle.plan_form.specs.Building.{turned, sum_at, renumbered, IsMerged, IsRewritten, IsBuilt}
 use Rattle.plan_form.specs.Buildable.{IsShort, IsBuildable}
 use Rattle.plan_form.specs.Good.{EndsAscend, AreGoodPaths, IsGoodRecipe}
 use Rattle.plan_form.specs.Order.{path_cmp}
 use Rattle.plan_form.specs.Steps.{lists_of, number_in, AreNumbers, AreOrdered}
 use Rattle.plan_form.proofs.Tallies.{sum_at-others, sum_at-place}
-use Rattle.plan_form.proofs.Merging.{weighted_by, merged_weight}
+use Rattle.plan_form.proofs.Merging.{merged_weight}
 use Rattle.plan_form.proofs.Turning.{uses_turned, path_turned, turned_ascends}
 
 -- a sum over paths is a sum over their numbers

@@ -5,12 +5,8 @@ use Rattle.std.proofs.lemmas.Int.{ints}
 use Rattle.std.proofs.lemmas.List.Elements.{All-head, All-tail}
 use Rattle.tomo_base.specs.Recipes.{gain_of, loss_of}
 use Rattle.simple_path.specs.declared.recipe.Term.{Term}
+use Rattle.simple_path.specs.Terms.{weighted_by}
 use Rattle.plan_form.specs.Building.{sum_at}
-
--- the sum over the terms of a weight of the coefficient times a number of the path
-unfoldable pub weighted_by : (ℤ → ℕ) → (ℕ → ℕ) → List Term → ℕ
-weighted_by w f [] = 0
-weighted_by w f (t ∷ ts) = w t.coef * f t.path + weighted_by w f ts
 
 -- the sum of h k over the numbers k below n
 unfoldable sum_below : ℕ → (ℕ → ℕ) → ℕ

@@ -7,3 +7,4 @@ pub mod TextSizes
 pub mod ReadBack
 pub mod Fields
 pub mod Loop
+pub mod Blanks

@@ -6,10 +6,12 @@ mod list;
 mod places;
 mod printing;
 mod reading;
+mod trim;
 
 pub use list::Rows;
 pub use printing::print_rows;
 pub use reading::read_rows;
+pub use trim::trimmed;
 
 #[cfg(test)]
 mod tests;

@@ -1,2 +1,4 @@
 pub mod Pools
 pub mod Paths
+pub mod Along
+pub mod Short

@@ -4,9 +4,11 @@
 mod monitor_path;
 mod path_pool;
 mod recipe;
+mod sums;
 #[cfg(test)]
 mod tests;
 
 pub use monitor_path::{ends_in, is_monitor_path, is_walk};
 pub use path_pool::PathPool;
 pub use recipe::{Recipe, Recipes, Term};
+pub use sums::sum_along;

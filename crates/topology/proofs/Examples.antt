@@ -6,7 +6,8 @@ use Rattle.tomo_base.specs.Sets.{members}
 use Rattle.rows.specs.Rows.{Row}
 use lib.Utf8.{encode}
 use Rattle.topology.specs.declared.faults.TopoFault.TheVariants.{Width, Name, Loop}
-use Rattle.topology.specs.Names.{after_blanks, trimmed, is_name}
+use Rattle.rows.specs.Blanks.{after_blanks, trimmed}
+use Rattle.topology.specs.Names.{is_name}
 use Rattle.topology.specs.Distinct.{distinct}
 use Rattle.topology.specs.Topology.{names_of, node_of, links_of, topo_of}
 use Rattle.topology.specs.Faults.{row_fault, fault_at}

@@ -1,6 +1,6 @@
 pub mod Distinct
 pub mod Numbers
-pub mod Blanks
+pub mod Texts
 pub mod Finding
 pub mod Graphs
 pub mod Drafts

@@ -1,20 +1,8 @@
 -- Names in the fields of rows.
-use Rattle.std.specs.Prelude.{ℕ, Bool, ◌==◌, ◌||◌, ◌&&◌, nat_le, List, [], ◌∷◌, length, reverse, slice_index_or, if◌then◌else◌}
+use Rattle.std.specs.Prelude.{ℕ, Bool, ◌&&◌, nat_le, List, [], length, slice_index_or}
 use Rattle.std.specs.Str.{is_utf8}
 use Rattle.rows.specs.Rows.{Row}
-
--- a space or a tab
-abbrev pub is_blank : ℕ → Bool
-is_blank b = (b == 32) || (b == 9)
-
--- the bytes from the first one on that is no blank
-unfoldable pub after_blanks : List ℕ → List ℕ
-after_blanks [] = []
-after_blanks (b ∷ bs) = if is_blank b then after_blanks bs else b ∷ bs
-
--- the field without the blanks at its ends
-unfoldable pub trimmed : List ℕ → List ℕ
-trimmed field = reverse (after_blanks (reverse (after_blanks field)))
+use Rattle.rows.specs.Blanks.{trimmed}
 
 -- the row at a place
 abbrev pub row_at : List Row → ℕ → Row

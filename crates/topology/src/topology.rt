@@ -5,7 +5,7 @@ ghost use Rattle.tomo_base.specs.Network.{AreLinks};
 ghost use Rattle.tomo_base.specs.Walks.{IsConnected};
 ghost use Rattle.topology.specs.Draft.{IsDraft};
 ghost use Rattle.topology.specs.Faults.{AllFine, IsTopoFault, IsUnfit, examined};
-ghost use Rattle.topology.specs.Names.{trimmed};
+ghost use Rattle.rows.specs.Blanks.{trimmed};
 ghost use Rattle.topology.specs.Topology.{IsTopology, topo_of, topo_with};
 
 use crate::draft::{Draft, draft_of};

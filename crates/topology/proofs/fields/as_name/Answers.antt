@@ -1,6 +1,6 @@
 use Rattle.std.proofs.Common.{◌≡◌, ◌≢◌, length, arith, sym, ◌∙◌}
 use Rattle.std.proofs.lemmas.Bool.{eqb-true, eqb-false}
-use Rattle.topology.proofs.Blanks.{no_empty_name, no_long_name, text_is_name, no_text_no_name}
+use Rattle.topology.proofs.Texts.{no_empty_name, no_long_name, text_is_name, no_text_no_name}
 use Rattle.topology.proofs.fields.as_name.Goals as goal
 use Rattle.topology.proofs.fields.as_name.Goals.{then-is_empty-via-then-is_empty, then-is_empty-via-else-is_empty+then-bytes-gt-NAME_LIMIT}
 

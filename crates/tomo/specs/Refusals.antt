@@ -1,6 +1,8 @@
 -- Refusals: one row with the refused word, a reason and a place.
 use Rattle.std.specs.Prelude.{ℕ, ◌∷◌, [], List, codes, decimal, slice_index_or}
 use Rattle.rows.specs.Rows.{Row, RowList}
+use Rattle.plan_form.specs.declared.faults.PlanFault.{PlanFault}
+use Rattle.plan_form.specs.declared.faults.PlanFault.TheVariants as plan_faults
 use Rattle.topology.specs.declared.faults.MonFault.{MonFault}
 use Rattle.topology.specs.declared.faults.MonFault.TheVariants as mon_faults
 use Rattle.topology.specs.declared.faults.TopoFault.{TopoFault}
@@ -44,3 +46,20 @@ monitor_reason (mon_faults.Unknown r) = codes "unknown"
 abbrev pub monitor_place : MonFault → List ℕ
 monitor_place mon_faults.NoMemory = []
 monitor_place (mon_faults.Unknown r) = decimal r
+
+-- why rows are refused as a plan, and where: the row, or the number of rows
+abbrev pub plan_reason : PlanFault → List ℕ
+plan_reason plan_faults.NoMemory = []
+plan_reason (plan_faults.Record r) = codes "record"
+plan_reason (plan_faults.Number r) = codes "number"
+plan_reason (plan_faults.Order r) = codes "order"
+plan_reason (plan_faults.Missing k) = codes "missing"
+plan_reason (plan_faults.After r) = codes "after"
+
+abbrev pub plan_place : PlanFault → List ℕ
+plan_place plan_faults.NoMemory = []
+plan_place (plan_faults.Record r) = decimal r
+plan_place (plan_faults.Number r) = decimal r
+plan_place (plan_faults.Order r) = decimal r
+plan_place (plan_faults.Missing k) = decimal k
+plan_place (plan_faults.After r) = decimal r

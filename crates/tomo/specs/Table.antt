@@ -3,16 +3,18 @@ use Rattle.std.specs.Prelude.{ℕ, ◌+◌, ◌-◌, ◌∷◌, [], ◌&&◌, Li
 use Rattle.std.specs.List.{starts_with}
 use Rattle.std.specs.Str.{bytes_eq}
 use Rattle.tomo.specs.declared.table.Command.{Command}
-use Rattle.tomo.specs.declared.table.Command.TheVariants.{Plan, WithMonitors}
+use Rattle.tomo.specs.declared.table.Command.TheVariants.{Plan, WithMonitors, WithPlan}
 use Rattle.tomo.specs.declared.table.MonitorTask.TheVariants.{Judge, Paths, Link}
+use Rattle.tomo.specs.declared.table.PlanTask.TheVariants.{Check}
 use Rattle.tomo.specs.declared.table.Kind.{Kind}
-use Rattle.tomo.specs.declared.table.Kind.TheVariants.{TopologyFile, MonitorFile}
+use Rattle.tomo.specs.declared.table.Kind.TheVariants.{TopologyFile, MonitorFile, PlanFile}
 use Rattle.tomo.specs.declared.table.Shape.{Shape}
 
 -- the most bytes of a file
 abbrev pub limit : Kind → ℕ
 limit TopologyFile = 4194304
 limit MonitorFile = 4194304
+limit PlanFile = 134217728
 
 -- the word of each command
 abbrev pub command_of : List ℕ → Option Command
@@ -20,12 +22,14 @@ command_of word =
     if bytes_eq word (codes "plan") then Some Plan else
     (if bytes_eq word (codes "judge") then Some (WithMonitors Judge) else
     (if bytes_eq word (codes "paths") then Some (WithMonitors Paths) else
-    (if bytes_eq word (codes "link") then Some (WithMonitors Link) else None)))
+    (if bytes_eq word (codes "link") then Some (WithMonitors Link) else
+    (if bytes_eq word (codes "check") then Some (WithPlan Check) else None))))
 
 -- the files of each command, in the order in which they are asked for
 abbrev pub files_of : Command → List Kind
 files_of Plan = TopologyFile ∷ []
 files_of (WithMonitors task) = TopologyFile ∷ MonitorFile ∷ []
+files_of (WithPlan Check) = TopologyFile ∷ PlanFile ∷ []
 
 -- how many words a command takes after its files
 abbrev pub other_words : Command → ℕ
@@ -33,6 +37,7 @@ other_words Plan = 0
 other_words (WithMonitors Judge) = 0
 other_words (WithMonitors Paths) = 0
 other_words (WithMonitors Link) = 2
+other_words (WithPlan task) = 0
 
 -- how many words a command takes in all after its own and the option
 abbrev pub word_count : Command → ℕ

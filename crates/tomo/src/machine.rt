@@ -1,13 +1,15 @@
 // The machine that takes in one file after the other, and never sees a device.
-ghost use Rattle.std.specs.Prelude.{◌≡◌, ◌≤◌, IfOk, length};
-ghost use Rattle.rows.specs.Rows.{rows_of};
+ghost use Rattle.std.specs.Prelude.{◌≡◌, ◌<◌, ◌≤◌, ◌^◌, IfOk, length};
+ghost use Rattle.rows.specs.Rows.{rows_of, byte_count};
 ghost use Rattle.tomo.specs.Table.{files_of, limit};
-ghost use Rattle.tomo.specs.Machine.{files_left, kind_of, start, with_topology as then_topology, TakesTopology, with_monitors as then_monitors, TakesMonitors, Takes, StepsBy, Fewer, StartsWith};
+ghost use Rattle.tomo.specs.Machine.{files_left, kind_of, start, with_topology as then_topology, TakesTopology, with_monitors as then_monitors, TakesMonitors, with_plan as then_plan, TakesPlan, Takes, StepsBy, Fewer, StartsWith};
 
 use crate::placed::Placed;
-use crate::refusal::{refuse_at, refuse_monitors, refuse_topology};
-use crate::table::{Command, Kind, MonitorTask, Shape, limit_of};
+use crate::refusal::{refuse_at, refuse_monitors, refuse_plan, refuse_topology};
+use crate::table::{Command, Kind, MonitorTask, PlanTask, Shape, limit_of};
 use outside::Got;
+use plan_form::{Plan, read_plan};
+use rows::laws::fields_are_no_longer_than_their_text;
 use rows::{Rows, read_rows};
 use std::alloc::Global;
 use tomo_base::NoMemory;
@@ -26,6 +28,15 @@ pub enum Wants {
         task: MonitorTask,
         topology: Topology,
     },
+    /// A plan for a topology.
+    APlan { task: PlanTask, topology: Topology },
+}
+
+/// A topology, and a plan that is said to be one for it.
+#[derive(Drop)]
+pub struct Planned {
+    pub topology: Topology,
+    pub plan: Plan,
 }
 
 /// A command with all that it reads.
@@ -35,6 +46,7 @@ pub enum Inputs {
     Judge(Placed),
     Paths(Placed),
     Link(Placed),
+    Check(Planned),
 }
 
 /// Where the reading ends: with all inputs, or with the row that refuses one.
@@ -59,6 +71,7 @@ impl Wants {
         match self {
             Wants::Topology { .. } => Kind::TopologyFile,
             Wants::Monitors { .. } => Kind::MonitorFile,
+            Wants::APlan { .. } => Kind::PlanFile,
         }
     }
 }
@@ -82,6 +95,7 @@ fn with_topology(command: Command, topology: Topology) -> Next
     match command {
         Command::Plan => Next::Stop(End::Ready(Inputs::Plan(topology))),
         Command::WithMonitors(task) => Next::Ask(Wants::Monitors { task, topology }),
+        Command::WithPlan(task) => Next::Ask(Wants::APlan { task, topology }),
     }
 }
 
@@ -133,16 +147,46 @@ fn take_monitors(
     }
 }
 
+// What a task does with its topology and plan.
+fn with_plan(task: PlanTask, topology: Topology, plan: Plan) -> Next
+    ensures after { result ≡ then_plan task topology plan }
+    ensures fewer { Fewer 1 result }
+{
+    match task {
+        PlanTask::Check => Next::Stop(End::Ready(Inputs::Check(Planned { topology, plan }))),
+    }
+}
+
+// Takes in a plan.
+fn take_plan(
+    alloc: Global,
+    task: PlanTask,
+    topology: Topology,
+    name: &str,
+    rows: &Rows,
+) -> Result<Next, NoMemory>
+    requires { byte_count rows.now.closed < 2 ^ 31 }
+    ensures taken { IfOk result (λ next. TakesPlan task topology name.now rows.now.closed next) }
+    ensures fewer { IfOk result (λ next. Fewer 1 next) }
+{
+    match read_plan(alloc, rows) {
+        Ok(plan) => Ok(with_plan(task, topology, plan)),
+        Err(fault) => Ok(Next::Stop(End::Refused(refuse_plan(alloc, name, fault)?))),
+    }
+}
+
 // Takes in a file that is within its limit.
 fn take_in(alloc: Global, wants: Wants, name: &str, content: &[u8]) -> Result<Next, NoMemory>
     requires { length content.now ≤ limit (kind_of wants) }
     ensures taken { IfOk result (λ next. Takes wants name.now (rows_of content.now) next) }
     ensures fewer { IfOk result (λ next. Fewer (files_left wants) next) }
 {
+    fields_are_no_longer_than_their_text();
     let rows = read_rows(alloc, content)?;
     match wants {
         Wants::Topology { command, header } => take_topology(alloc, command, header, name, &rows),
         Wants::Monitors { task, topology } => take_monitors(alloc, task, topology, name, &rows),
+        Wants::APlan { task, topology } => take_plan(alloc, task, topology, name, &rows),
     }
 }
 

@@ -11,6 +11,7 @@ mod machine;
 mod placed;
 mod planning;
 mod refusal;
+mod reporting;
 mod run;
 mod status;
 mod table;

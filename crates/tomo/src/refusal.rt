@@ -2,9 +2,10 @@
 ghost use Rattle.std.specs.Prelude.{◌≡◌, ◌≢◌, IfOk, decimal};
 ghost use Rattle.topology.specs.Topology.{names_of};
 ghost use Rattle.topology.specs.Faults.{examined, IsTopoFault};
-ghost use Rattle.tomo.specs.Refusals.{refused, topology_reason, topology_place, monitor_reason, monitor_place};
+ghost use Rattle.tomo.specs.Refusals.{refused, topology_reason, topology_place, monitor_reason, monitor_place, plan_reason, plan_place};
 
 use itoa::Buffer;
+use plan_form::PlanFault;
 use rows::Rows;
 use std::alloc::Global;
 use tomo_base::NoMemory;
@@ -66,5 +67,20 @@ pub fn refuse_monitors(alloc: Global, word: &str, fault: MonFault) -> Result<Row
     match fault {
         MonFault::NoMemory => Err(NoMemory),
         MonFault::Unknown(row) => refuse_at(alloc, word, "unknown", u64::from(row)),
+    }
+}
+
+/// The row that refuses a plan.
+pub fn refuse_plan(alloc: Global, word: &str, fault: PlanFault) -> Result<Rows, NoMemory>
+    ensures cause { IfOk result (λ refusal. fault ≢ PlanFault.NoMemory) }
+    ensures row { IfOk result (λ refusal. refusal ≡ refused word.now (plan_reason fault) (plan_place fault)) }
+{
+    match fault {
+        PlanFault::NoMemory => Err(NoMemory),
+        PlanFault::Record(row) => refuse_at(alloc, word, "record", u64::from(row)),
+        PlanFault::Number(row) => refuse_at(alloc, word, "number", u64::from(row)),
+        PlanFault::Order(row) => refuse_at(alloc, word, "order", u64::from(row)),
+        PlanFault::Missing(rows) => refuse_at(alloc, word, "missing", u64::from(rows)),
+        PlanFault::After(row) => refuse_at(alloc, word, "after", u64::from(row)),
     }
 }

@@ -9,6 +9,7 @@ use tomo_base::Words;
 pub enum Command {
     Plan,
     WithMonitors(MonitorTask),
+    WithPlan(PlanTask),
 }
 
 /// What is done with a topology and monitors.
@@ -19,11 +20,18 @@ pub enum MonitorTask {
     Link,
 }
 
+/// What is done with a topology and a plan.
+#[derive(Clone, Copy, Debug, PartialEq, Eq)]
+pub enum PlanTask {
+    Check,
+}
+
 /// What a file holds.
 #[derive(Clone, Copy, Debug, PartialEq, Eq)]
 pub enum Kind {
     TopologyFile,
     MonitorFile,
+    PlanFile,
 }
 
 /// What the words say beside the names of files: the command, and whether the topology's first row is a header.
@@ -39,6 +47,7 @@ pub fn limit_of(kind: Kind) -> u64
 {
     match kind {
         Kind::TopologyFile | Kind::MonitorFile => 4_194_304,
+        Kind::PlanFile => 134_217_728,
     }
 }
 
@@ -51,6 +60,7 @@ fn named_command(word: &str) -> Option<Command>
         "judge" => Some(Command::WithMonitors(MonitorTask::Judge)),
         "paths" => Some(Command::WithMonitors(MonitorTask::Paths)),
         "link" => Some(Command::WithMonitors(MonitorTask::Link)),
+        "check" => Some(Command::WithPlan(PlanTask::Check)),
         _ => None,
     }
 }
@@ -62,6 +72,7 @@ fn file_count(command: Command) -> u32
     match command {
         Command::Plan => 1,
         Command::WithMonitors(_) => 2,
+        Command::WithPlan(PlanTask::Check) => 2,
     }
 }
 
@@ -73,6 +84,7 @@ fn words_after(command: Command) -> u32
         Command::Plan => 1,
         Command::WithMonitors(MonitorTask::Judge | MonitorTask::Paths) => 2,
         Command::WithMonitors(MonitorTask::Link) => 4,
+        Command::WithPlan(PlanTask::Check) => 2,
     }
 }
 

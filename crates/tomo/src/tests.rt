@@ -187,6 +187,22 @@ fn paths_and_links_for_given_monitors(rt: HostRuntime) -> Result<(), Fail> {
 }
 
 #[test]
+fn plans_are_checked(rt: HostRuntime) -> Result<(), Fail> {
+    let alloc = rt.alloc();
+    let check = ["check", "t", "p"];
+    let good = [("t", TWO_LINKS), ("p", TWO_LINKS_PLAN)];
+    assert_eq!(rt; run_over(alloc, &check, &good, b"good,3,3\n")?, (Status::Done, true));
+    let other = [("t", b"a,b\nb,d\n".as_slice()), ("p", TWO_LINKS_PLAN)];
+    assert_eq!(rt; run_over(alloc, &check, &other, b"bad,names,2\n")?, (Status::Negative, true));
+    let cut = [("t", TWO_LINKS), ("p", b"plan,1\nnode,0,a\n".as_slice())];
+    assert_eq!(rt;
+        run_over(alloc, &check, &cut, b"refused,p,missing,2\n")?,
+        (Status::BadInput, true)
+    );
+    Ok(())
+}
+
+#[test]
 fn faults_end_a_run(rt: HostRuntime) -> Result<(), Fail> {
     let alloc = rt.alloc();
     let shapeless: [&[&str]; 5] = [

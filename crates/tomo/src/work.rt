@@ -10,6 +10,7 @@ use crate::judging::judge_monitors;
 use crate::linking::tell_link;
 use crate::machine::{End, Inputs};
 use crate::planning::{plan, plan_paths};
+use crate::reporting::check_plan;
 use crate::status::Status;
 use crate::table::{Shape, last_word};
 use rows::print_rows;
@@ -36,6 +37,7 @@ fn work(alloc: Global, words: &Words, shape: Shape, inputs: Inputs) -> Result<An
             let (first, second) = (last_word(words, shape, 0), last_word(words, shape, 1));
             tell_link(alloc, &placed, first, second)
         }
+        Inputs::Check(planned) => check_plan(alloc, &planned),
     }
 }
 

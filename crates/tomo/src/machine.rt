@@ -29,7 +29,10 @@ pub enum Wants {
         topology: Topology,
     },
     /// A plan for a topology.
-    APlan { task: PlanTask, topology: Topology },
+    APlan {
+        task: PlanTask,
+        topology: Topology,
+    },
 }
 
 /// A topology, and a plan that is said to be one for it.

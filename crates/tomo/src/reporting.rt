@@ -13,12 +13,7 @@ use std::alloc::Global;
 use tomo_base::NoMemory;
 
 // One row of three fields.
-fn three_fields(
-    alloc: Global,
-    first: &str,
-    second: &str,
-    third: &str,
-) -> Result<Rows, NoMemory>
+fn three_fields(alloc: Global, first: &str, second: &str, third: &str) -> Result<Rows, NoMemory>
     ensures { IfOk result (λ rows. rows ≡ only ((first.now ∷ second.now ∷ third.now ∷ []) ∷ [])) }
 {
     let mut rows = Rows::new(alloc);

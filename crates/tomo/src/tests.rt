@@ -191,9 +191,15 @@ fn plans_are_checked(rt: HostRuntime) -> Result<(), Fail> {
     let alloc = rt.alloc();
     let check = ["check", "t", "p"];
     let good = [("t", TWO_LINKS), ("p", TWO_LINKS_PLAN)];
-    assert_eq!(rt; run_over(alloc, &check, &good, b"good,3,3\n")?, (Status::Done, true));
+    assert_eq!(rt;
+        run_over(alloc, &check, &good, b"good,3,3\n")?,
+        (Status::Done, true)
+    );
     let other = [("t", b"a,b\nb,d\n".as_slice()), ("p", TWO_LINKS_PLAN)];
-    assert_eq!(rt; run_over(alloc, &check, &other, b"bad,names,2\n")?, (Status::Negative, true));
+    assert_eq!(rt;
+        run_over(alloc, &check, &other, b"bad,names,2\n")?,
+        (Status::Negative, true)
+    );
     let cut = [("t", TWO_LINKS), ("p", b"plan,1\nnode,0,a\n".as_slice())];
     assert_eq!(rt;
         run_over(alloc, &check, &cut, b"refused,p,missing,2\n")?,

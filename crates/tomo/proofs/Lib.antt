@@ -5,3 +5,4 @@ pub mod Ending
 pub mod Taking
 pub mod Naming
 pub mod TermRows
+pub mod Solved

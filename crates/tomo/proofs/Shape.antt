@@ -1,9 +1,11 @@
 -- The words of a shape: how many files they name, and at which places.
-use Rattle.std.proofs.Common.{◌≡◌, ◌∙◌, ap, refl, ℕ, ◌+◌, ◌-◌, ◌<◌, List, [], length, take, drop, get_or, Option, Some, None, arith, true, false, Bool, length-drop, if◌then◌else◌}
+use Rattle.std.proofs.Common.{◌≡◌, ◌∙◌, ap, refl, ℕ, ◌+◌, ◌-◌, ◌<◌, ◌≤◌, List, [], length, take, drop, get_or, Option, Some, None, arith, true, false, Bool, length-drop, if◌then◌else◌}
 use Rattle.std.proofs.lemmas.List.{get_or-drop, get_or-take, length-take-le, drop_more}
 use Rattle.std.proofs.lemmas.Bool.{and_parts, eqb-true}
 use Rattle.tomo.specs.Table.{shape, shaped, fits, first_place, has_header, files_of, word_count, file_words, named, begins_option, no_options}
 use Rattle.tomo.specs.declared.table.Command.{Command}
+use Rattle.tomo.specs.declared.table.Command.TheVariants.{Plan, WithMonitors, WithPlan}
+use Rattle.tomo.specs.declared.table.PlanTask.TheVariants.{Check, Solve}
 use Rattle.tomo.specs.declared.table.Shape.{Shape}
 
 -- a shape has as many words after its place as the command has files
@@ -37,6 +39,13 @@ files-of-shape words s e = ap (named words) e
 pub file_count : (words : List (List ℕ)) (s : Shape) → shape words ≡ Some s → length (file_words words) ≡ length (files_of s.command)
 file_count words s e =
     rw (files-of-shape words s e) (length-take-le (length (files_of s.command)) (drop (first_place s.header) words) (rw (length-drop (first_place s.header) words, rest-count words s e) (omega arith)))
+
+-- a command reads at most three files
+pub files_few : (command : Command) → length (files_of command) ≤ 3
+files_few Plan = omega arith
+files_few (WithMonitors task) = omega arith
+files_few (WithPlan Check) = omega arith
+files_few (WithPlan Solve) = omega arith
 
 -- the place of a file is one of the words
 pub file_place : (words : List (List ℕ)) (s : Shape) (turn : ℕ) → shape words ≡ Some s → turn < length (file_words words) → first_place s.header + turn < length words

@@ -10,8 +10,6 @@ use Rattle.tomo_base.specs.Identify.{Identifies, IsMonitorPath}
 use Rattle.rows.specs.Rows.{Row}
 use Rattle.topology.specs.Topology.{Topo}
 use Rattle.judge.specs.Verdict.{IsFoundBad}
-use Rattle.cert_check.specs.declared.report.Fault.{Fault}
-use Rattle.cert_check.specs.declared.report.Fault.TheVariants as faults
 use Rattle.cert_check.specs.declared.report.Report.{Report}
 use Rattle.cert_check.specs.declared.report.Report.TheVariants.{Good, Bad}
 use Rattle.cert_check.specs.Reports.{IsReport}
@@ -20,11 +18,12 @@ use Rattle.plan_form.specs.PlanRows.{plan_rows}
 use Rattle.plan_form.specs.Order.{path_cmp}
 use Rattle.plan_form.specs.Good.{EndsAscend}
 use Rattle.planner.specs.Planned.{IsPlanned, IsPlanFor}
-use Rattle.tomo.specs.Refusals.{refused}
+use Rattle.tomo.specs.Refusals.{refused, fault_part, fault_number}
+use Rattle.tomo.specs.Rounds.{Solves}
 use Rattle.tomo.specs.declared.status.Status.{Status}
 use Rattle.tomo.specs.declared.status.Status.TheVariants.{Done, Negative, BadInput}
 use Rattle.tomo.specs.declared.machine.Inputs.{Inputs}
-use Rattle.tomo.specs.declared.machine.Inputs.TheVariants.{Plan, Judge, Paths, Link, Check}
+use Rattle.tomo.specs.declared.machine.Inputs.TheVariants.{Plan, Judge, Paths, Link, Check, Solve}
 use Rattle.tomo.specs.declared.machine.End.{End}
 use Rattle.tomo.specs.declared.machine.End.TheVariants.{Ready, Refused}
 
@@ -90,23 +89,6 @@ TellsLink t monitors a b status rows =
     ⊎ ((w : ℕ) × IsNamed t w b × (((linked t.graph v w ≡ false) × RefusesWord a (codes "unlinked") b status rows)
     ⊎ ((i : ℕ) × JoinsAt t.graph.links i v w × TellsRecipe t monitors i status rows)))))
 
--- the part of a plan that has the fault, and the number of the item
-abbrev pub fault_part : Fault → List ℕ
-fault_part (faults.Names i) = codes "names"
-fault_part (faults.Links i) = codes "links"
-fault_part (faults.Monitor i) = codes "monitor"
-fault_part (faults.Pocket i) = codes "pocket"
-fault_part (faults.Path i) = codes "path"
-fault_part (faults.Recipe i) = codes "recipe"
-
-abbrev pub fault_number : Fault → ℕ
-fault_number (faults.Names i) = i
-fault_number (faults.Links i) = i
-fault_number (faults.Monitor i) = i
-fault_number (faults.Pocket i) = i
-fault_number (faults.Path i) = i
-fault_number (faults.Recipe i) = i
-
 -- a report, as a row and as a status
 abbrev pub report_row : Report → Row
 report_row (Good monitors bound) = codes "good" ∷ decimal monitors ∷ decimal bound ∷ []
@@ -127,6 +109,7 @@ Answers others (Judge p) status rows = Judges p.topology p.monitors status rows
 Answers others (Paths p) status rows = PlansFor p.topology p.monitors status rows
 Answers others (Link p) status rows = TellsLink p.topology p.monitors (slice_index_or others 0 []) (slice_index_or others 1 []) status rows
 Answers others (Check c) status rows = Reports c.topology c.plan status rows
+Answers others (Solve m) status rows = Solves m.checked.topology m.checked.plan m.rounds status rows
 
 -- the answers where the reading ended
 abbrev pub Ends : List (List ℕ) → End → Status → List Row → Type 0

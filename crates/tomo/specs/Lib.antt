@@ -1,7 +1,9 @@
+pub mod OneProof
 pub mod Table
 pub mod Refusals
 pub mod Machine
 pub mod Status
 pub mod Text
+pub mod Rounds
 pub mod Answers
 pub mod Run

@@ -11,24 +11,33 @@ use Rattle.topology.specs.declared.faults.MonFault.{MonFault}
 use Rattle.topology.specs.declared.faults.MonFault.TheVariants as mon_faults
 use Rattle.topology.specs.Monitors.{AllKnown, IsMonFault, monitors_of}
 use Rattle.tomo.specs.Table.{limit, files_of}
-use Rattle.tomo.specs.Refusals.{refused, topology_reason, topology_place, monitor_reason, monitor_place, plan_reason, plan_place}
+use Rattle.tomo.specs.Refusals.{refused, topology_reason, topology_place, monitor_reason, monitor_place, plan_reason, plan_place, check_reason, fault_number, round_reason, round_place}
 use Rattle.tomo.specs.declared.table.Command.{Command}
 use Rattle.tomo.specs.declared.table.Command.TheVariants.{Plan, WithMonitors, WithPlan}
 use Rattle.tomo.specs.declared.table.MonitorTask.{MonitorTask}
 use Rattle.tomo.specs.declared.table.MonitorTask.TheVariants.{Judge, Paths, Link}
 use Rattle.tomo.specs.declared.table.Kind.{Kind}
-use Rattle.tomo.specs.declared.table.Kind.TheVariants.{TopologyFile, MonitorFile, PlanFile}
+use Rattle.tomo.specs.declared.table.Kind.TheVariants.{TopologyFile, MonitorFile, PlanFile, RoundFile}
 use Rattle.tomo.specs.declared.table.Shape.{Shape}
 use Rattle.plan_form.specs.Parts.{PlanParts}
 use Rattle.plan_form.specs.PlanRows.{plan_rows}
 use Rattle.plan_form.specs.Reading.{IsFirstPlanFault}
+use Rattle.plan_form.specs.Good.{IsGoodPlan}
+use Rattle.cert_check.specs.declared.report.Fault.{Fault}
+use Rattle.cert_check.specs.Faults.{IsFault}
+use Rattle.round_reader.specs.Sums.{AreRounds}
+use Rattle.round_reader.specs.Faults.{IsFirstFault}
+use Rattle.round_reader.specs.declared.faults.RoundFault.{RoundFault}
+use Rattle.round_reader.specs.declared.faults.RoundFault.TheVariants as round_faults
 use Rattle.plan_form.specs.declared.faults.PlanFault.{PlanFault}
 use Rattle.plan_form.specs.declared.faults.PlanFault.TheVariants as plan_faults
 use Rattle.tomo.specs.declared.table.PlanTask.{PlanTask}
-use Rattle.tomo.specs.declared.table.PlanTask.TheVariants.{Check}
+use Rattle.tomo.specs.declared.table.PlanTask.TheVariants.{Check, Solve}
 use Rattle.tomo.specs.declared.placed.Placed.{Placed}
+use Rattle.tomo.specs.declared.checked.Checked.{Checked}
+use Rattle.tomo.specs.declared.checked.Measured.{Measured}
 use Rattle.tomo.specs.declared.machine.Wants.{Wants}
-use Rattle.tomo.specs.declared.machine.Wants.TheVariants.{Topology, Monitors, APlan}
+use Rattle.tomo.specs.declared.machine.Wants.TheVariants.{Topology, Monitors, APlan, Sums}
 use Rattle.tomo.specs.declared.machine.Inputs.TheVariants as inputs
 use Rattle.tomo.specs.declared.machine.End.TheVariants.{Ready, Refused}
 use Rattle.tomo.specs.declared.machine.Next.{Next}
@@ -39,12 +48,15 @@ abbrev pub kind_of : Wants → Kind
 kind_of (Topology command header) = TopologyFile
 kind_of (Monitors task topology) = MonitorFile
 kind_of (APlan task topology) = PlanFile
+kind_of (Sums checked) = RoundFile
 
 -- how many files are still to be asked for
 abbrev pub files_left : Wants → ℕ
 files_left (Topology command header) = length (files_of command)
 files_left (Monitors task topology) = 1
 files_left (APlan Check topology) = 1
+files_left (APlan Solve topology) = 2
+files_left (Sums checked) = 1
 
 -- what a command wants first
 abbrev pub start : Shape → Next
@@ -81,21 +93,35 @@ TakesMonitors task t name rows next =
     (AllKnown t.names rows (length rows) × (p : Placed) × (p.topology ≡ t) × (p.monitors ≡ monitors_of t.names rows) × (next ≡ with_monitors task p))
     ⊎ ((f : MonFault) × (f ≢ mon_faults.NoMemory) × IsMonFault t.names rows f × (next ≡ Stop (Refused (refused name (monitor_reason f) (monitor_place f)))))
 
--- a task with its topology and plan
-abbrev pub with_plan : PlanTask → Topo → PlanParts → Next
-with_plan Check t p = Stop (Ready (inputs.Check (record { topology = t; plan = p })))
+-- a good plan goes on to the sums, any other is refused for its first fault
+abbrev pub TakesGood : Topo → PlanParts → List ℕ → Next → Type 0
+TakesGood t p name next =
+    (IsGoodPlan t.names t.graph p × (c : Checked) × (c.topology ≡ t) × (c.plan ≡ p) × (next ≡ Ask (Sums c)))
+    ⊎ ((f : Fault) × IsFault t p f × (next ≡ Stop (Refused (refused name (check_reason f) (decimal (fault_number f))))))
+
+-- what a task does with its topology and plan
+abbrev pub GoesOn : PlanTask → Topo → PlanParts → List ℕ → Next → Type 0
+GoesOn Check t p name next = next ≡ Stop (Ready (inputs.Check (record { topology = t; plan = p })))
+GoesOn Solve t p name next = TakesGood t p name next
 
 -- what the rows of a plan file do: they are those of a plan, or refused for their first fault
 abbrev pub TakesPlan : PlanTask → Topo → List ℕ → List Row → Next → Type 0
 TakesPlan task t name rows next =
-    ((p : PlanParts) × (rows ≡ plan_rows p) × (next ≡ with_plan task t p))
+    ((p : PlanParts) × (rows ≡ plan_rows p) × GoesOn task t p name next)
     ⊎ ((f : PlanFault) × (f ≢ plan_faults.NoMemory) × IsFirstPlanFault rows f × (next ≡ Stop (Refused (refused name (plan_reason f) (plan_place f)))))
+
+-- what the rows of a file of rounds do: they are rounds over the plan, or refused for their first fault
+abbrev pub TakesSums : Checked → List ℕ → List Row → Next → Type 0
+TakesSums c name rows next =
+    ((m : Measured) × (m.checked ≡ c) × AreRounds (length c.plan.paths) rows m.rounds × (next ≡ Stop (Ready (inputs.Solve m))))
+    ⊎ ((f : RoundFault) × (f ≢ round_faults.NoMemory) × IsFirstFault (length c.plan.paths) rows f × (next ≡ Stop (Refused (refused name (round_reason f) (round_place f)))))
 
 -- what the rows of a file do
 abbrev pub Takes : Wants → List ℕ → List Row → Next → Type 0
 Takes (Topology command header) name rows next = TakesTopology command header name rows next
 Takes (Monitors task t) name rows next = TakesMonitors task t name rows next
 Takes (APlan task t) name rows next = TakesPlan task t name rows next
+Takes (Sums c) name rows next = TakesSums c name rows next
 
 -- what the content of a file does: one longer than the limit is refused
 abbrev pub Steps : Wants → List ℕ → List ℕ → Next → Type 0

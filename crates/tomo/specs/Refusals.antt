@@ -1,8 +1,12 @@
 -- Refusals: one row with the refused word, a reason and a place.
-use Rattle.std.specs.Prelude.{ℕ, ◌∷◌, [], List, codes, decimal, slice_index_or}
+use Rattle.std.specs.Prelude.{ℕ, ◌∷◌, ◌++◌, [], List, codes, decimal, slice_index_or}
 use Rattle.rows.specs.Rows.{Row, RowList}
 use Rattle.plan_form.specs.declared.faults.PlanFault.{PlanFault}
 use Rattle.plan_form.specs.declared.faults.PlanFault.TheVariants as plan_faults
+use Rattle.cert_check.specs.declared.report.Fault.{Fault}
+use Rattle.cert_check.specs.declared.report.Fault.TheVariants as plan_parts
+use Rattle.round_reader.specs.declared.faults.RoundFault.{RoundFault}
+use Rattle.round_reader.specs.declared.faults.RoundFault.TheVariants as round_faults
 use Rattle.topology.specs.declared.faults.MonFault.{MonFault}
 use Rattle.topology.specs.declared.faults.MonFault.TheVariants as mon_faults
 use Rattle.topology.specs.declared.faults.TopoFault.{TopoFault}
@@ -63,3 +67,35 @@ plan_place (plan_faults.Number r) = decimal r
 plan_place (plan_faults.Order r) = decimal r
 plan_place (plan_faults.Missing k) = decimal k
 plan_place (plan_faults.After r) = decimal r
+
+-- the part of a plan that has the fault, and the number of the item
+abbrev pub fault_part : Fault → List ℕ
+fault_part (plan_parts.Names i) = codes "names"
+fault_part (plan_parts.Links i) = codes "links"
+fault_part (plan_parts.Monitor i) = codes "monitor"
+fault_part (plan_parts.Pocket i) = codes "pocket"
+fault_part (plan_parts.Path i) = codes "path"
+fault_part (plan_parts.Recipe i) = codes "recipe"
+
+abbrev pub fault_number : Fault → ℕ
+fault_number (plan_parts.Names i) = i
+fault_number (plan_parts.Links i) = i
+fault_number (plan_parts.Monitor i) = i
+fault_number (plan_parts.Pocket i) = i
+fault_number (plan_parts.Path i) = i
+fault_number (plan_parts.Recipe i) = i
+
+-- why a plan is not solved over: the part that has the fault
+abbrev pub check_reason : Fault → List ℕ
+check_reason f = codes "check-" ++ fault_part f
+
+-- why rows are refused as rounds, and where: the row, or the row and the field
+abbrev pub round_reason : RoundFault → List ℕ
+round_reason round_faults.NoMemory = []
+round_reason (round_faults.Width r) = codes "width"
+round_reason (round_faults.Number r f) = codes "number"
+
+abbrev pub round_place : RoundFault → List ℕ
+round_place round_faults.NoMemory = []
+round_place (round_faults.Width r) = decimal r
+round_place (round_faults.Number r f) = decimal r ++ codes " " ++ decimal f

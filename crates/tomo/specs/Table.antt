@@ -5,9 +5,9 @@ use Rattle.std.specs.Str.{bytes_eq}
 use Rattle.tomo.specs.declared.table.Command.{Command}
 use Rattle.tomo.specs.declared.table.Command.TheVariants.{Plan, WithMonitors, WithPlan}
 use Rattle.tomo.specs.declared.table.MonitorTask.TheVariants.{Judge, Paths, Link}
-use Rattle.tomo.specs.declared.table.PlanTask.TheVariants.{Check}
+use Rattle.tomo.specs.declared.table.PlanTask.TheVariants.{Check, Solve}
 use Rattle.tomo.specs.declared.table.Kind.{Kind}
-use Rattle.tomo.specs.declared.table.Kind.TheVariants.{TopologyFile, MonitorFile, PlanFile}
+use Rattle.tomo.specs.declared.table.Kind.TheVariants.{TopologyFile, MonitorFile, PlanFile, RoundFile}
 use Rattle.tomo.specs.declared.table.Shape.{Shape}
 
 -- the most bytes of a file
@@ -15,6 +15,7 @@ abbrev pub limit : Kind → ℕ
 limit TopologyFile = 4194304
 limit MonitorFile = 4194304
 limit PlanFile = 134217728
+limit RoundFile = 16777216
 
 -- the word of each command
 abbrev pub command_of : List ℕ → Option Command
@@ -23,13 +24,15 @@ command_of word =
     (if bytes_eq word (codes "judge") then Some (WithMonitors Judge) else
     (if bytes_eq word (codes "paths") then Some (WithMonitors Paths) else
     (if bytes_eq word (codes "link") then Some (WithMonitors Link) else
-    (if bytes_eq word (codes "check") then Some (WithPlan Check) else None))))
+    (if bytes_eq word (codes "check") then Some (WithPlan Check) else
+    (if bytes_eq word (codes "solve") then Some (WithPlan Solve) else None)))))
 
 -- the files of each command, in the order in which they are asked for
 abbrev pub files_of : Command → List Kind
 files_of Plan = TopologyFile ∷ []
 files_of (WithMonitors task) = TopologyFile ∷ MonitorFile ∷ []
 files_of (WithPlan Check) = TopologyFile ∷ PlanFile ∷ []
+files_of (WithPlan Solve) = TopologyFile ∷ PlanFile ∷ RoundFile ∷ []
 
 -- how many words a command takes after its files
 abbrev pub other_words : Command → ℕ

@@ -2,14 +2,20 @@
 ghost use Rattle.std.specs.Prelude.{◌≡◌, ◌<◌, ◌≤◌, ◌^◌, IfOk, length};
 ghost use Rattle.rows.specs.Rows.{rows_of, byte_count};
 ghost use Rattle.tomo.specs.Table.{files_of, limit};
-ghost use Rattle.tomo.specs.Machine.{files_left, kind_of, start, with_topology as then_topology, TakesTopology, with_monitors as then_monitors, TakesMonitors, with_plan as then_plan, TakesPlan, Takes, StepsBy, Fewer, StartsWith};
+ghost use Rattle.tomo.specs.Machine.{files_left, kind_of, start, with_topology as then_topology, TakesTopology, with_monitors as then_monitors, TakesMonitors, TakesGood, GoesOn, TakesPlan, TakesSums, Takes, StepsBy, Fewer, StartsWith};
+ghost use Rattle.tomo.specs.declared.machine.Wants.TheVariants.{APlan};
 
+use crate::checked::{Checked, Measured};
 use crate::placed::Placed;
-use crate::refusal::{refuse_at, refuse_monitors, refuse_plan, refuse_topology};
+use crate::refusal::{
+    refuse_at, refuse_fault, refuse_monitors, refuse_plan, refuse_rounds, refuse_topology,
+};
 use crate::table::{Command, Kind, MonitorTask, PlanTask, Shape, limit_of};
+use cert_check::{Report, check};
 use outside::Got;
 use plan_form::{Plan, read_plan};
-use rows::laws::fields_are_no_longer_than_their_text;
+use round_reader::read_rounds;
+use rows::laws::{fields_are_no_longer_than_their_text, rows_are_no_more_than_bytes};
 use rows::{Rows, read_rows};
 use std::alloc::Global;
 use tomo_base::NoMemory;
@@ -33,6 +39,8 @@ pub enum Wants {
         task: PlanTask,
         topology: Topology,
     },
+    /// Sums along the paths of a plan.
+    Sums(Checked),
 }
 
 /// A topology, and a plan that is said to be one for it.
@@ -50,6 +58,7 @@ pub enum Inputs {
     Paths(Placed),
     Link(Placed),
     Check(Planned),
+    Solve(Measured),
 }
 
 /// Where the reading ends: with all inputs, or with the row that refuses one.
@@ -75,6 +84,7 @@ impl Wants {
             Wants::Topology { .. } => Kind::TopologyFile,
             Wants::Monitors { .. } => Kind::MonitorFile,
             Wants::APlan { .. } => Kind::PlanFile,
+            Wants::Sums(_) => Kind::RoundFile,
         }
     }
 }
@@ -150,13 +160,31 @@ fn take_monitors(
     }
 }
 
+// Takes in a plan if it is good, or refuses it for its first fault.
+fn take_good(alloc: Global, topology: Topology, plan: Plan, name: &str) -> Result<Next, NoMemory>
+    ensures taken { IfOk result (λ next. TakesGood topology plan name.now next) }
+    ensures fewer { IfOk result (λ next. Fewer 2 next) }
+{
+    match check(alloc, &topology, &plan)? {
+        Report::Good { .. } => Ok(Next::Ask(Wants::Sums(Checked { topology, plan }))),
+        Report::Bad(fault) => Ok(Next::Stop(End::Refused(refuse_fault(alloc, name, fault)?))),
+    }
+}
+
 // What a task does with its topology and plan.
-fn with_plan(task: PlanTask, topology: Topology, plan: Plan) -> Next
-    ensures after { result ≡ then_plan task topology plan }
-    ensures fewer { Fewer 1 result }
+fn with_plan(
+    alloc: Global,
+    task: PlanTask,
+    topology: Topology,
+    plan: Plan,
+    name: &str,
+) -> Result<Next, NoMemory>
+    ensures after { IfOk result (λ next. GoesOn task topology plan name.now next) }
+    ensures fewer { IfOk result (λ next. Fewer (files_left (APlan task topology)) next) }
 {
     match task {
-        PlanTask::Check => Next::Stop(End::Ready(Inputs::Check(Planned { topology, plan }))),
+        PlanTask::Check => Ok(Next::Stop(End::Ready(Inputs::Check(Planned { topology, plan })))),
+        PlanTask::Solve => take_good(alloc, topology, plan, name),
     }
 }
 
@@ -170,11 +198,23 @@ fn take_plan(
 ) -> Result<Next, NoMemory>
     requires { byte_count rows.now.closed < 2 ^ 31 }
     ensures taken { IfOk result (λ next. TakesPlan task topology name.now rows.now.closed next) }
-    ensures fewer { IfOk result (λ next. Fewer 1 next) }
+    ensures fewer { IfOk result (λ next. Fewer (files_left (APlan task topology)) next) }
 {
     match read_plan(alloc, rows) {
-        Ok(plan) => Ok(with_plan(task, topology, plan)),
+        Ok(plan) => with_plan(alloc, task, topology, plan, name),
         Err(fault) => Ok(Next::Stop(End::Refused(refuse_plan(alloc, name, fault)?))),
+    }
+}
+
+// Takes in rounds of sums along the paths of a plan.
+fn take_sums(alloc: Global, checked: Checked, name: &str, rows: &Rows) -> Result<Next, NoMemory>
+    requires { length rows.now.closed ≤ 16777216 }
+    ensures taken { IfOk result (λ next. TakesSums checked name.now rows.now.closed next) }
+    ensures fewer { IfOk result (λ next. Fewer 1 next) }
+{
+    match read_rounds(alloc, checked.plan.paths().len(), rows) {
+        Ok(rounds) => Ok(Next::Stop(End::Ready(Inputs::Solve(Measured { checked, rounds })))),
+        Err(fault) => Ok(Next::Stop(End::Refused(refuse_rounds(alloc, name, fault)?))),
     }
 }
 
@@ -185,11 +225,13 @@ fn take_in(alloc: Global, wants: Wants, name: &str, content: &[u8]) -> Result<Ne
     ensures fewer { IfOk result (λ next. Fewer (files_left wants) next) }
 {
     fields_are_no_longer_than_their_text();
+    rows_are_no_more_than_bytes();
     let rows = read_rows(alloc, content)?;
     match wants {
         Wants::Topology { command, header } => take_topology(alloc, command, header, name, &rows),
         Wants::Monitors { task, topology } => take_monitors(alloc, task, topology, name, &rows),
         Wants::APlan { task, topology } => take_plan(alloc, task, topology, name, &rows),
+        Wants::Sums(checked) => take_sums(alloc, checked, name, &rows),
     }
 }
 

@@ -4,6 +4,7 @@
 ghost use Rattle.std.specs.Prelude.{◌≡◌};
 
 mod answer;
+mod checked;
 mod gather;
 mod judging;
 mod linking;
@@ -13,6 +14,7 @@ mod planning;
 mod refusal;
 mod reporting;
 mod run;
+mod solving;
 mod status;
 mod table;
 #[cfg(test)]

@@ -2,10 +2,12 @@
 ghost use Rattle.std.specs.Prelude.{◌≡◌, ◌≢◌, IfOk, decimal};
 ghost use Rattle.topology.specs.Topology.{names_of};
 ghost use Rattle.topology.specs.Faults.{examined, IsTopoFault};
-ghost use Rattle.tomo.specs.Refusals.{refused, topology_reason, topology_place, monitor_reason, monitor_place, plan_reason, plan_place};
+ghost use Rattle.tomo.specs.Refusals.{refused, topology_reason, topology_place, monitor_reason, monitor_place, plan_reason, plan_place, check_reason, fault_number, round_reason, round_place};
 
+use cert_check::Fault;
 use itoa::Buffer;
 use plan_form::PlanFault;
+use round_reader::RoundFault;
 use rows::Rows;
 use std::alloc::Global;
 use tomo_base::NoMemory;
@@ -82,5 +84,38 @@ pub fn refuse_plan(alloc: Global, word: &str, fault: PlanFault) -> Result<Rows, 
         PlanFault::Order(row) => refuse_at(alloc, word, "order", u64::from(row)),
         PlanFault::Missing(rows) => refuse_at(alloc, word, "missing", u64::from(rows)),
         PlanFault::After(row) => refuse_at(alloc, word, "after", u64::from(row)),
+    }
+}
+
+/// The row that refuses a plan with a fault.
+pub fn refuse_fault(alloc: Global, word: &str, fault: Fault) -> Result<Rows, NoMemory>
+    ensures { IfOk result (λ refusal. refusal ≡ refused word.now (check_reason fault) (decimal (fault_number fault))) }
+{
+    match fault {
+        Fault::Names(name) => refuse_at(alloc, word, "check-names", u64::from(name)),
+        Fault::Links(link) => refuse_at(alloc, word, "check-links", u64::from(link)),
+        Fault::Monitor(monitor) => refuse_at(alloc, word, "check-monitor", u64::from(monitor)),
+        Fault::Pocket(pocket) => refuse_at(alloc, word, "check-pocket", u64::from(pocket)),
+        Fault::Path(path) => refuse_at(alloc, word, "check-path", u64::from(path)),
+        Fault::Recipe(recipe) => refuse_at(alloc, word, "check-recipe", u64::from(recipe)),
+    }
+}
+
+/// The row that refuses rounds.
+pub fn refuse_rounds(alloc: Global, word: &str, fault: RoundFault) -> Result<Rows, NoMemory>
+    ensures cause { IfOk result (λ refusal. fault ≢ RoundFault.NoMemory) }
+    ensures row { IfOk result (λ refusal. refusal ≡ refused word.now (round_reason fault) (round_place fault)) }
+{
+    match fault {
+        RoundFault::NoMemory => Err(NoMemory),
+        RoundFault::Width(row) => refuse_at(alloc, word, "width", u64::from(row)),
+        RoundFault::Number(row, field) => {
+            let mut digits = Buffer::new();
+            let mut place = String::new(alloc);
+            place.push_str(digits.format(row))?;
+            place.push_str(" ")?;
+            place.push_str(digits.format(field))?;
+            refuse(alloc, word, "number", place.as_str())
+        }
     }
 }

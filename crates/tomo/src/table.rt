@@ -24,6 +24,7 @@ pub enum MonitorTask {
 #[derive(Clone, Copy, Debug, PartialEq, Eq)]
 pub enum PlanTask {
     Check,
+    Solve,
 }
 
 /// What a file holds.
@@ -32,6 +33,7 @@ pub enum Kind {
     TopologyFile,
     MonitorFile,
     PlanFile,
+    RoundFile,
 }
 
 /// What the words say beside the names of files: the command, and whether the topology's first row is a header.
@@ -48,6 +50,7 @@ pub fn limit_of(kind: Kind) -> u64
     match kind {
         Kind::TopologyFile | Kind::MonitorFile => 4_194_304,
         Kind::PlanFile => 134_217_728,
+        Kind::RoundFile => 16_777_216,
     }
 }
 
@@ -61,6 +64,7 @@ fn named_command(word: &str) -> Option<Command>
         "paths" => Some(Command::WithMonitors(MonitorTask::Paths)),
         "link" => Some(Command::WithMonitors(MonitorTask::Link)),
         "check" => Some(Command::WithPlan(PlanTask::Check)),
+        "solve" => Some(Command::WithPlan(PlanTask::Solve)),
         _ => None,
     }
 }
@@ -73,6 +77,7 @@ fn file_count(command: Command) -> u32
         Command::Plan => 1,
         Command::WithMonitors(_) => 2,
         Command::WithPlan(PlanTask::Check) => 2,
+        Command::WithPlan(PlanTask::Solve) => 3,
     }
 }
 
@@ -85,6 +90,7 @@ fn words_after(command: Command) -> u32
         Command::WithMonitors(MonitorTask::Judge | MonitorTask::Paths) => 2,
         Command::WithMonitors(MonitorTask::Link) => 4,
         Command::WithPlan(PlanTask::Check) => 2,
+        Command::WithPlan(PlanTask::Solve) => 3,
     }
 }
 

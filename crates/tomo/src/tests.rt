@@ -209,6 +209,44 @@ fn plans_are_checked(rt: HostRuntime) -> Result<(), Fail> {
 }
 
 #[test]
+fn rounds_are_solved(rt: HostRuntime) -> Result<(), Fail> {
+    let alloc = rt.alloc();
+    let rounds: [(&[u8], Status, &[u8]); 4] = [
+        (
+            b"5, 7 \n0,1000000000000\n",
+            Status::Done,
+            b"link,0,a,b\nlink,1,b,c\nround,0,ok,5,7\nround,1,ok,0,1000000000000\nend,2,0\n",
+        ),
+        (
+            b"5,7\n1000000000001,0\n",
+            Status::Negative,
+            b"link,0,a,b\nlink,1,b,c\nround,0,ok,5,7\nround,1,large,0\nend,2,1\n",
+        ),
+        (b"5\n", Status::BadInput, b"refused,r,width,1\n"),
+        (b"5,7\n1,x\n", Status::BadInput, b"refused,r,number,2 2\n"),
+    ];
+    for (sums, status, written) in rounds {
+        let files = [("t", TWO_LINKS), ("p", TWO_LINKS_PLAN), ("r", sums)];
+        assert_eq!(rt;
+            run_over(alloc, &["solve", "t", "p", "r"], &files, written)?,
+            (status, true)
+        );
+    }
+    // A plan with a fault is the last file that is read.
+    let other = [("t", b"a,b\nb,d\n".as_slice()), ("p", TWO_LINKS_PLAN)];
+    assert_eq!(rt;
+        run_over(
+            alloc,
+            &["solve", "t", "p", "r"],
+            &other,
+            b"refused,p,check-names,2\n"
+        )?,
+        (Status::BadInput, true)
+    );
+    Ok(())
+}
+
+#[test]
 fn faults_end_a_run(rt: HostRuntime) -> Result<(), Fail> {
     let alloc = rt.alloc();
     let shapeless: [&[&str]; 5] = [

@@ -11,6 +11,7 @@ use crate::linking::tell_link;
 use crate::machine::{End, Inputs};
 use crate::planning::{plan, plan_paths};
 use crate::reporting::check_plan;
+use crate::solving::solve_rounds;
 use crate::status::Status;
 use crate::table::{Shape, last_word};
 use rows::print_rows;
@@ -38,6 +39,7 @@ fn work(alloc: Global, words: &Words, shape: Shape, inputs: Inputs) -> Result<An
             tell_link(alloc, &placed, first, second)
         }
         Inputs::Check(planned) => check_plan(alloc, &planned),
+        Inputs::Solve(measured) => solve_rounds(alloc, &measured),
     }
 }
 

@@ -2,7 +2,7 @@ use Rattle.std.proofs.Common.{◌∙◌, sym, ap, refl, arith, Ok, Err}
 use Rattle.outside.specs.Shelf.{Gives}
 use Rattle.tomo.specs.Table.{file_words, limit}
 use Rattle.tomo.specs.Machine.{start, kind_of}
-use Rattle.tomo.proofs.Shape.{file_place, file_named, file_count}
+use Rattle.tomo.proofs.Shape.{file_place, file_named, file_count, files_few}
 use Rattle.tomo.proofs.Gathering.{turn_below, reading_first, reading_asks, reading_more, reading_ends, asks_all, asked_more, knows_at, gives_wanted, within_wanted}
 use Rattle.tomo.proofs.gather.gather.Goals as goal
 
@@ -14,6 +14,11 @@ loop-content-init g c = record {
   sure = refl;
   later = omega arith;
 }
+
+pub overflow_add-turn : goal.overflow_add-turn
+overflow_add-turn g c =
+    let below = turn_below _ _ _ _ _ _ _ c.loop-content.invariant.reading in
+    omega (arith, below, file_count c.args.words.now c.args.shape c.requires, files_few c.args.shape.command)
 
 pub at-name-requires : goal.at-name-requires
 at-name-requires g c =

@@ -12,7 +12,12 @@ returns-in-Monitors-clause-taken c =
     let closed : c.in_ok-rows.rows.closed ≡ rows_of c.args.content.now = ap (λ (r : RowList). r.closed) c.in_ok-rows.ensures in
     rw (c.in-Monitors.is, ← closed) c.take_monitors.ensures.taken
 
+pub returns-in-APlan-clause-taken : goal.returns-in-APlan-clause-taken
+returns-in-APlan-clause-taken c =
+    let closed : c.in_ok-rows.rows.closed ≡ rows_of c.args.content.now = ap (λ (r : RowList). r.closed) c.in_ok-rows.ensures in
+    rw (c.in-APlan.is, ← closed) c.take_plan.ensures.taken
+
 pub returns-clause-taken : goal.returns-clause-taken
 returns-clause-taken c =
     let closed : c.in_ok-rows.rows.closed ≡ rows_of c.args.content.now = ap (λ (r : RowList). r.closed) c.in_ok-rows.ensures in
-    rw (c.in-APlan.is, ← closed) c.take_plan.ensures.taken
+    rw (c.in-Sums.is, ← closed) c.take_sums.ensures.taken

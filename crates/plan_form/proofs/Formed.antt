@@ -1,5 +1,5 @@
 -- The parts that are made for a plan can be spelled.
-use Rattle.std.proofs.Common.{◌≡◌, ℕ, ◌<◌, ◌≤◌, ◌^◌, Bool, List, [], ◌∷◌, length, map, get_or, sym, subst, arith, All}
+use Rattle.std.proofs.Common.{◌≡◌, ℕ, ◌<◌, ◌^◌, Bool, List, [], ◌∷◌, length, map, get_or, sym, subst, arith, All}
 use Rattle.std.proofs.lemmas.List.{get_or_default, length-map}
 use Rattle.std.proofs.lemmas.List.Elements.{All-cons, All-map}
 use Rattle.tomo_base.specs.declared.graph.Link.{Link}
@@ -22,14 +22,14 @@ use Rattle.plan_form.proofs.Built.{rewritten_within, built, good_paths}
 pub names_formed : (t : Topo) → IsTopology t → All IsName t.names
 names_formed t is = is.named
 
--- the ends of links of few nodes are small
-links_below : (n : ℕ) (links : List Link) → n ≤ 1000 → AreLinks n links → All IsSmallLink links
-links_below n [] few are = λ k d l. absurd (omega (arith, l))
-links_below n (link ∷ links) few are = All-cons IsSmallLink link links (omega (arith, are.0, are.1, few), omega (arith, are.1, few)) (links_below n links few are.3)
+-- the ends of links are nodes
+pub links_below : (n : ℕ) (links : List Link) → AreLinks n links → All (λ l. (l.a < n) × (l.b < n)) links
+links_below n [] are = λ k d l. absurd (omega (arith, l))
+links_below n (link ∷ links) are = All-cons (λ (l : Link). (l.a < n) × (l.b < n)) link links (omega (arith, are.0, are.1), are.1) (links_below n links are.3)
 
--- its links
+-- the links of a topology
 pub links_formed : (t : Topo) → IsTopology t → All IsSmallLink t.graph.links
-links_formed t is = links_below t.graph.nodes t.graph.links is.few_nodes is.graph
+links_formed t is k d l = let ends = links_below t.graph.nodes t.graph.links is.graph k d l in (omega (arith, ends.0, is.few_nodes), omega (arith, ends.1, is.few_nodes))
 
 -- pockets, as a plan keeps them
 pub pockets_formed : (held : List HeldPocket) (given : List Pocket) → All (λ k. IsSmall k.need × All IsSmall k.nodes.items) held → map part_of held ≡ map as_part given → All (λ k. 0 < length k.nodes) given

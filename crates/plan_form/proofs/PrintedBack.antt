@@ -18,6 +18,7 @@ use Rattle.plan_form.proofs.Printed.{no_fault}
 abbrev IsFilled : Row → Type 0
 IsFilled row = 0 < length row
 
+-- where there is no row, each is filled
 no_row : AllFilled []
 no_row = λ k d l. absurd (omega (arith, l))
 

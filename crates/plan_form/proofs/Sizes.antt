@@ -95,23 +95,28 @@ terms_fit terms few =
     let joined = joined_fits term_text 8 terms (λ i d l. term_fits (get_or terms i d) (few.1 i d l)) in
     (joined.0, omega (arith, joined.1, few.0))
 
--- a row of each kind
+-- the row of a name, which may stand in quotes
 node_row_size : (i : ℕ) (name : List ℕ) → i < 16000 → length name ≤ 64 → row_size (node_row i name) ≤ 145
 node_row_size i name low few = omega (arith, fits_size 5 (decimal i) (number_fits i low), name_size name few)
 
+-- the row of a link
 link_row_size : (i : ℕ) (l : Link) → i < 16000 → IsLowLink l → row_size (link_row i l) ≤ 22
 link_row_size i l low ends = omega (arith, fits_size 5 (decimal i) (number_fits i low), fits_size 3 (decimal l.a) (node_fits l.a ends.0), fits_size 3 (decimal l.b) (node_fits l.b ends.1))
 
+-- the row of a monitor
 monitor_row_size : (v : ℕ) → v < 1000 → row_size (monitor_row v) ≤ 15
 monitor_row_size v low = omega (arith, fits_size 3 (decimal v) (node_fits v low))
 
+-- the row of a pocket
 pocket_row_size : (i : ℕ) (k : PlanPocket) → i < 16000 → IsLowPocket k → row_size (pocket_row i k) ≤ 4021
 pocket_row_size i k low few =
     omega (arith, fits_size 5 (decimal i) (number_fits i low), fits_size 3 (decimal k.need) (node_fits k.need few.0), fits_size 4000 (numbers_text k.nodes) (nodes_fit k.nodes few.1))
 
+-- the row of a path
 path_row_size : (i : ℕ) (nodes : List ℕ) → i < 16000 → AreFewNodes nodes → row_size (path_row i nodes) ≤ 4015
 path_row_size i nodes low few = omega (arith, fits_size 5 (decimal i) (number_fits i low), fits_size 4000 (numbers_text nodes) (nodes_fit nodes few))
 
+-- the row of a recipe
 recipe_row_size : (i : ℕ) (terms : List Term) → i < 16000 → AreFewTerms terms → row_size (recipe_row i terms) ≤ 161
 recipe_row_size i terms low few = omega (arith, fits_size 5 (decimal i) (number_fits i low), fits_size 144 (terms_text terms) (terms_fit terms few))
 

@@ -4,32 +4,31 @@ use Rattle.std.specs.List.Sorted.{IsStrictlyIncreasing}
 use Rattle.std.proofs.lemmas.Bool.{or_left, or_right}
 use Rattle.std.proofs.lemmas.Bool.Decides.{nat_tests}
 use Rattle.std.proofs.lemmas.List.{get_or_default}
-use Rattle.std.proofs.lemmas.List.Elements.{All-cons, All-head, All-tail}
-use Rattle.tomo_base.specs.declared.graph.Link.{Link}
-use Rattle.tomo_base.specs.Network.{Network, AreLinks, IsGraph}
+use Rattle.std.proofs.lemmas.List.Elements.{All-head, All-tail}
+use Rattle.tomo_base.specs.Network.{Network, IsGraph}
 use Rattle.tomo_base.specs.Sets.{has, count, Avoids}
 use Rattle.tomo_base.specs.Identify.{IsMonitorPath}
 use Rattle.tomo_base.proofs.Ascending.{has-at}
 use Rattle.tomo_base.proofs.Counts.{count-le, count-less}
 use Rattle.tomo_base.proofs.Members.{count-has}
 use Rattle.topology.specs.Names.{is_name}
+use Rattle.topology.specs.Topology.{Topo, IsTopology}
 use Rattle.simple_path.specs.declared.recipe.Term.{Term}
 use Rattle.simple_path.proofs.Short.{walk_short}
 use Rattle.plan_form.specs.Good.{IsGoodPocket}
 use Rattle.plan_form.specs.Laws.{GoodIsWithinLimits}
 use Rattle.plan_form.specs.Limits.{AreFewNodes, IsLowLink, IsLowPocket}
 use Rattle.plan_form.specs.Parts.{PlanPocket, IsName, IsTermList}
-use Rattle.plan_form.proofs.Formed.{nodes_below}
+use Rattle.plan_form.proofs.Formed.{links_below, nodes_below}
 
 -- a name has at most 64 bytes
 name_short : (name : List ℕ) → IsName name → length name ≤ 64
 unfolding is_name
 name_short name is = grind (arith, nat_tests)
 
--- the ends of links of at most 1,000 nodes
-links_low : (n : ℕ) (links : List Link) → n ≤ 1000 → AreLinks n links → All IsLowLink links
-links_low n [] few are = λ k d l. absurd (omega (arith, l))
-links_low n (link ∷ links) few are = All-cons IsLowLink link links (omega (arith, are.0, are.1, few), omega (arith, are.1, few)) (links_low n links few are.3)
+-- the ends of the links of a topology are below 1,000
+links_low : (t : Topo) → IsTopology t → All IsLowLink t.graph.links
+links_low t is k d l = let ends = links_below t.graph.nodes t.graph.links is.graph k d l in (omega (arith, ends.0, is.few_nodes), omega (arith, ends.1, is.few_nodes))
 
 -- ascending numbers below n are at most n
 nodes_few : (n : ℕ) (nodes : List ℕ) → n ≤ 1000 → All (λ v. v < n) nodes → IsStrictlyIncreasing nodes → AreFewNodes nodes
@@ -79,7 +78,7 @@ good_within t p is formed good four =
       few_names = omega (arith, names, is.one_each, is.few_nodes);
       names = λ k d l. name_short (get_or p.names k d) (formed.names k d l);
       few_links = omega (arith, links, is.few_links);
-      links = rw good.links (links_low t.graph.nodes t.graph.links is.few_nodes is.graph);
+      links = rw good.links (links_low t is);
       monitors = nodes_few t.graph.nodes p.monitors is.few_nodes good.monitors.nodes good.monitors.ascending;
       few_pockets = omega (arith, pockets_few t.graph p.pockets (λ k d l. (formed.pockets k d l).1.0) good.pockets.each good.pockets.disjoint, count-le t.graph.nodes (held p.pockets), is.few_nodes);
       pockets = λ k d l. pocket_low t.graph (get_or p.pockets k d) is.few_nodes (good.pockets.each k d l);

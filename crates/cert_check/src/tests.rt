@@ -2,11 +2,35 @@
 ghost use Rattle.std.specs.Prelude.{◌<◌, ◌^◌, length};
 
 use crate::{Fault, Report, check};
-use planner::make_plan;
+use drop_place::place;
+use plan_form::read_plan;
+use planner::{make_plan, plan_for};
 use rows::read_rows;
 use std::alloc::Global;
 use std::test::Fail;
+use tomo_base::NoMemory;
 use topology::{Topology, read_topology};
+
+// The plan of two links.
+const TWO_LINKS: [&[u8]; 17] = [
+    b"plan,1",
+    b"node,0,a",
+    b"node,1,b",
+    b"node,2,c",
+    b"link,0,0,1",
+    b"link,1,1,2",
+    b"monitor,0",
+    b"monitor,1",
+    b"monitor,2",
+    b"pocket,0,1,0",
+    b"pocket,1,1,1",
+    b"pocket,2,1,2",
+    b"path,0,0 1",
+    b"path,1,1 2",
+    b"recipe,0,2:0",
+    b"recipe,1,2:1",
+    b"end",
+];
 
 // The topology with these rows.
 fn topology_of(alloc: Global, text: &[u8]) -> Result<Topology, Fail>
@@ -50,5 +74,101 @@ fn it_has_other_names_than_another(rt: HostRuntime) -> Result<(), Fail> {
 fn it_has_other_links_than_another(rt: HostRuntime) -> Result<(), Fail> {
     let report = report_of(rt.alloc(), b"a,b\na,c\nb,c\nc,d\nd,e\nd,f\nc,f\n")?;
     assert_eq!(rt; report, Report::Bad(Fault::Links(6)));
+    Ok(())
+}
+
+// The text of the plan of two links with another row in place of the one with a number, counted from 1.
+fn with_row(alloc: Global, number: usize, row: &[u8]) -> Result<Vec<u8>, NoMemory> {
+    let mut text = Vec::new(alloc);
+    for (i, line) in TWO_LINKS.iter().enumerate() {
+        text.extend_from_slice(if i + 1 == number { row } else { line })?;
+        text.push(b'\n')?;
+    }
+    Ok(text)
+}
+
+// What the plan in a short text comes to for the topology of two links, if it is a plan.
+fn report_of_text(alloc: Global, text: &[u8]) -> Result<Option<Report>, Fail>
+    requires { length text.now < 10000 }
+{
+    rows::laws::fields_are_no_longer_than_their_text();
+    let rows = read_rows(alloc, text)?;
+    let topology = topology_of(alloc, b"a,b\nb,c\n")?;
+    match read_plan(alloc, &rows) {
+        Ok(plan) => Ok(Some(check(alloc, &topology, &plan)?)),
+        Err(_) => Ok(None),
+    }
+}
+
+#[test]
+fn one_changed_row_is_a_fault(rt: HostRuntime) -> Result<(), Fail> {
+    let alloc = rt.alloc();
+    let good = Report::Good {
+        monitors: 3,
+        bound: 3,
+    };
+    for (number, row, report) in [
+        (0, b"".as_slice(), good),
+        (8, b"monitor,0", Report::Bad(Fault::Monitor(1))),
+        (9, b"monitor,3", Report::Bad(Fault::Monitor(2))),
+        (11, b"pocket,1,2,1", Report::Bad(Fault::Pocket(1))),
+        (12, b"pocket,2,1,1", Report::Bad(Fault::Pocket(2))),
+        (13, b"path,0,0 2", Report::Bad(Fault::Path(0))),
+        (14, b"path,1,2 1", Report::Bad(Fault::Path(1))),
+        (14, b"path,1,0 1", Report::Bad(Fault::Path(1))),
+        (15, b"recipe,0,2:1", Report::Bad(Fault::Recipe(0))),
+        (16, b"recipe,1,2:2", Report::Bad(Fault::Recipe(1))),
+    ] {
+        let text = with_row(alloc, number, row)?;
+        assert!(rt; text.len() < 10_000);
+        assert_eq!(rt; report_of_text(alloc, &text)?, Some(report), "row {number}");
+    }
+    Ok(())
+}
+
+// The rows of a grid of 30 by 30 nodes, numbered row after row.
+fn grid(alloc: Global) -> Result<String, Fail> {
+    let mut text = String::new(alloc);
+    for v in 0..900 {
+        if v % 30 < 29 {
+            text.push_str(&format!(in alloc; "{v},{}\n", v + 1)?)?;
+        }
+        if v < 870 {
+            text.push_str(&format!(in alloc; "{v},{}\n", v + 30)?)?;
+        }
+    }
+    Ok(text)
+}
+
+// The rows of a graph of 40 nodes, each two of which are linked.
+fn complete(alloc: Global) -> Result<String, Fail> {
+    let mut text = String::new(alloc);
+    for high in 0..40 {
+        for low in 0..high {
+            text.push_str(&format!(in alloc; "{low},{high}\n")?)?;
+        }
+    }
+    Ok(text)
+}
+
+// What the plan for the lowest set of monitors comes to.
+fn report_of_lowest(alloc: Global, text: &[u8]) -> Result<Report, Fail>
+    requires { length text.now < 2 ^ 31 }
+{
+    let topology = topology_of(alloc, text)?;
+    let monitors = place(alloc, topology.graph())?;
+    let plan = plan_for(alloc, &topology, &monitors)?;
+    Ok(check(alloc, &topology, &plan)?)
+}
+
+// Of a grid's nodes only the four corners have two neighbours, and of a complete graph's nodes any three serve.
+#[test]
+fn plans_of_large_graphs_are_good(rt: HostRuntime) -> Result<(), Fail> {
+    let alloc = rt.alloc();
+    for (text, monitors) in [(grid(alloc)?, 4), (complete(alloc)?, 3)] {
+        assert!(rt; text.len() < 100_000);
+        let report = report_of_lowest(alloc, text.as_bytes())?;
+        assert_eq!(rt; report, Report::Good { monitors, bound: 0 });
+    }
     Ok(())
 }

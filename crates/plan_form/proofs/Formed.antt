@@ -1,6 +1,6 @@
 -- The parts that are made for a plan can be spelled.
-use Rattle.std.proofs.Common.{◌≡◌, ℕ, ◌<◌, ◌≤◌, ◌^◌, Bool, List, [], ◌∷◌, length, map, get_or, sym, subst, arith, All}
-use Rattle.std.proofs.lemmas.List.{get_or_default}
+use Rattle.std.proofs.Common.{◌≡◌, ℕ, ◌<◌, ◌^◌, Bool, List, [], ◌∷◌, length, map, get_or, sym, subst, arith, All}
+use Rattle.std.proofs.lemmas.List.{get_or_default, length-map}
 use Rattle.std.proofs.lemmas.List.Elements.{All-cons, All-map}
 use Rattle.tomo_base.specs.declared.graph.Link.{Link}
 use Rattle.tomo_base.specs.declared.pocket.Pocket.{Pocket}
@@ -11,24 +11,25 @@ use Rattle.tomo_base.proofs.Links.{linked_below}
 use Rattle.topology.specs.Topology.{Topo, IsTopology}
 use Rattle.simple_path.specs.declared.recipe.Term.{Term}
 use Rattle.plan_form.specs.declared.plan.HeldPocket.{HeldPocket}
-use Rattle.plan_form.specs.Building.{IsBuilt}
+use Rattle.plan_form.specs.Building.{renumbered, IsMerged, IsBuilt}
 use Rattle.plan_form.specs.Buildable.{IsBuildable, IsShort, as_part}
 use Rattle.plan_form.specs.Held.{part_of}
-use Rattle.plan_form.specs.Parts.{PlanPocket, IsSmall, IsNodeList, IsTermList, IsName, IsSmallLink, IsSmallPocket}
-use Rattle.plan_form.proofs.Built.{rewritten_within}
+use Rattle.plan_form.specs.Steps.{number_in, AreOrdered}
+use Rattle.plan_form.specs.Parts.{PlanPocket, IsSmall, IsNodeList, IsTermList, IsName, IsSmallLink, IsSmallPocket, IsWellFormed}
+use Rattle.plan_form.proofs.Built.{rewritten_within, built, good_paths}
 
 -- the names of a topology
 pub names_formed : (t : Topo) → IsTopology t → All IsName t.names
 names_formed t is = is.named
 
--- the ends of links of few nodes are small
-links_below : (n : ℕ) (links : List Link) → n ≤ 1000 → AreLinks n links → All IsSmallLink links
-links_below n [] few are = λ k d l. absurd (omega (arith, l))
-links_below n (link ∷ links) few are = All-cons IsSmallLink link links (omega (arith, are.0, are.1, few), omega (arith, are.1, few)) (links_below n links few are.3)
+-- the ends of links are nodes
+pub links_below : (n : ℕ) (links : List Link) → AreLinks n links → All (λ l. (l.a < n) × (l.b < n)) links
+links_below n [] are = λ k d l. absurd (omega (arith, l))
+links_below n (link ∷ links) are = All-cons (λ (l : Link). (l.a < n) × (l.b < n)) link links (omega (arith, are.0, are.1), are.1) (links_below n links are.3)
 
--- its links
+-- the links of a topology
 pub links_formed : (t : Topo) → IsTopology t → All IsSmallLink t.graph.links
-links_formed t is = links_below t.graph.nodes t.graph.links is.few_nodes is.graph
+links_formed t is k d l = let ends = links_below t.graph.nodes t.graph.links is.graph k d l in (omega (arith, ends.0, is.few_nodes), omega (arith, ends.1, is.few_nodes))
 
 -- pockets, as a plan keeps them
 pub pockets_formed : (held : List HeldPocket) (given : List Pocket) → All (λ k. IsSmall k.need × All IsSmall k.nodes.items) held → map part_of held ≡ map as_part given → All (λ k. 0 < length k.nodes) given
@@ -62,3 +63,23 @@ recipes_formed g m pool old paths new can built few i d l =
     let short : IsShort (get_or new i []) = can.short paths i (get_or new i []) built.ascending within (built.recipes i within) in
     let names : All (λ (t : Term). t.path < length paths) (get_or new i []) = rewritten_within pool paths (get_or old i []) (get_or new i []) (built.recipes i within) in
     rw (get_or_default new i d [] l) (short.0, short.1, λ k e n. (short.2 k e n, omega (arith, names k e n, few)))
+
+-- so what is made of all parts can be spelled
+pub made_formed : (t : Topo) (m : ℕ → Bool) (pool : List (List ℕ)) (old : List (List Term)) (given : List Pocket) (names : List (List ℕ)) (links : List Link) (monitors : List ℕ) (held : List HeldPocket) (paths : List (List ℕ)) (numbers : List ℕ)
+    (new : List (List Term)) → IsTopology t → IsBuildable t.graph m pool old → names ≡ t.names → links ≡ t.graph.links → All IsSmall monitors → All (λ k. 0 < length k.nodes) given → map part_of held ≡ map as_part given
+    → All (λ k. IsSmall k.need × All IsSmall k.nodes.items) held → length held < 2 ^ 32 → AreOrdered pool paths numbers → length paths < 2 ^ 31 → length new ≡ length old → length new < 2 ^ 32
+    → ((i : ℕ) → i < length old → IsMerged (renumbered (number_in numbers) (get_or old i [])) (get_or new i []))
+    → IsWellFormed (record { names = names; links = links; monitors = monitors; pockets = map part_of held; paths = paths; recipes = new })
+made_formed t m pool old given names links monitors held paths numbers new is can same_names same_links small filled same parts few_pockets ordered few_paths one_each few_recipes merged = record {
+  names = rw same_names (names_formed t is);
+  links = rw same_links (links_formed t is);
+  monitors = small;
+  pockets = pockets_formed held given parts same filled;
+  paths = paths_formed t m paths is (good_paths t.graph m pool old paths numbers can ordered).each;
+  recipes = recipes_formed t.graph m pool old paths new can (built t.graph m pool old paths numbers new can ordered one_each merged) few_paths;
+  few_names = rw same_names (omega (arith, is.one_each, is.few_nodes));
+  few_links = rw same_links (omega (arith, is.few_links));
+  few_pockets = rw length-map few_pockets;
+  few_paths = few_paths;
+  few_recipes = few_recipes;
+}

@@ -27,3 +27,6 @@ pub mod Bytes
 pub mod Reader
 pub mod Ending
 pub mod Recipes
+pub mod PrintedBack
+pub mod Sizes
+pub mod Within

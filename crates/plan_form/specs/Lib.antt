@@ -10,5 +10,6 @@ pub mod Steps
 pub mod Kinds
 pub mod Values
 pub mod Reading
+pub mod Limits
 pub mod Laws
 pub mod Taking

@@ -3,6 +3,7 @@ ghost use Rattle.std.specs.Prelude.{ℕ, ◌≡◌, ◌<◌, ◌≤◌, [], leng
 ghost use Rattle.tomo_base.specs.Sets.{has};
 ghost use Rattle.tomo_base.specs.Recipes.{IsRecipe};
 ghost use Rattle.simple_path.specs.Terms.{path_terms};
+ghost use Rattle.plan_form.specs.Parts.{IsWellFormed};
 ghost use Rattle.plan_form.specs.Building.{IsBuilt};
 ghost use Rattle.plan_form.specs.Buildable.{IsBuildable, as_part};
 ghost use Rattle.plan_form.specs.Good.{AreGoodPaths, IsGoodRecipe};
@@ -30,6 +31,7 @@ impl Plan {
     ) -> Result<Plan, NoMemory>
         requires parts { IsBuildable t.now.graph (has m.now) pool.now recipes.now }
         requires filled { All (λ k. 0 < length k.nodes) pockets.now }
+        ensures formed { IfOk result IsWellFormed }
         ensures names { IfOk result (λ p. p.names ≡ t.now.names) }
         ensures links { IfOk result (λ p. p.links ≡ t.now.graph.links) }
         ensures monitors { IfOk result (λ p. p.monitors ≡ m.now) }

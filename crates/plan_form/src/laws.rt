@@ -1,5 +1,5 @@
 //! Laws of the rows of plans. Each is a function with nothing to run, whose clause is the law.
-ghost use Rattle.plan_form.specs.Laws.{OneSpelling, PrintedHasNoFault, OneFault};
+ghost use Rattle.plan_form.specs.Laws.{OneSpelling, PrintedHasNoFault, OneFault, PrintedIsReadBack, PrintedIsShort, GoodIsWithinLimits};
 
 /// Two well-formed plans with equal rows are equal.
 pub fn one_spelling()
@@ -14,4 +14,24 @@ pub fn printed_plan_has_no_fault()
 /// Rows have at most one first fault apart from want of memory.
 pub fn one_fault()
     ensures { OneFault }
+{}
+
+/// The bytes that print the rows of a well-formed plan are read back as these rows. They are the rows of no other well-formed plan
+/// and have no fault but want of memory, so the plan that is read is the plan that was printed.
+pub fn printed_plan_is_read_back()
+    ensures { PrintedIsReadBack }
+{
+    rows::laws::printed_rows_are_read_back();
+}
+
+/// The bytes that print the rows of a plan within the limits are at most 134,217,728.
+pub fn printed_plan_is_short()
+    ensures { PrintedIsShort }
+{
+    rows::laws::texts_are_no_longer_than_their_fields_call_for();
+}
+
+/// A well-formed plan that is good for a topology, with at most four paths for each link, is within the limits.
+pub fn good_plan_is_within_limits()
+    ensures { GoodIsWithinLimits }
 {}

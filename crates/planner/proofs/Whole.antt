@@ -1,12 +1,11 @@
 -- What is built of measured links, monitors and pockets is a plan as promised.
-use Rattle.std.proofs.Common.{Ok, Err, Result, IfOk, ◌≡◌, ℕ, ℤ, ◌*◌, ◌-◌, ◌<◌, ◌≤◌, ◌^◌, Bool, List, [], ◌∷◌, length, map, get_or, All, Contains, min, refl, ap, ◌∙◌, arith}
+use Rattle.std.proofs.Common.{Ok, Err, Result, IfOk, ◌≡◌, ℕ, ◌*◌, ◌-◌, ◌<◌, ◌≤◌, ◌^◌, Bool, List, [], ◌∷◌, length, map, get_or, All, min, refl, ap, ◌∙◌, arith}
 use Rattle.std.proofs.lemmas.List.{get_or-map, length-map}
-use Rattle.std.proofs.lemmas.List.Elements.{All-cons, All-head, All-tail, All-map, Contains-get_or}
+use Rattle.std.proofs.lemmas.List.Elements.{All-head, All-tail, All-map}
 use Rattle.std.specs.List.Sorted.{IsStrictlyIncreasing}
 use Rattle.tomo_base.specs.declared.pocket.Pocket.{Pocket}
 use Rattle.tomo_base.specs.Network.{Network}
 use Rattle.tomo_base.specs.Sets.{has, size, nothing}
-use Rattle.tomo_base.specs.Identify.{Identified}
 use Rattle.tomo_base.specs.Recipes.{IsRecipe}
 use Rattle.tomo_base.specs.Lowest.{IsLowest}
 use Rattle.tomo_base.specs.Pockets.{IsPocket, Shows, AreHomePockets, need_of, needs_of}
@@ -18,7 +17,7 @@ use Rattle.simple_path.specs.declared.recipe.Term.{Term}
 use Rattle.simple_path.specs.Terms.{path_terms}
 use Rattle.topology.specs.Topology.{Topo, IsTopology}
 use Rattle.pocket_bound.specs.Classes.{sets_of}
-use Rattle.plan_form.specs.Parts.{PlanParts}
+use Rattle.plan_form.specs.Parts.{PlanParts, IsWellFormed}
 use Rattle.plan_form.specs.PlanRows.{row_count}
 use Rattle.plan_form.specs.Building.{IsBuilt}
 use Rattle.plan_form.specs.Buildable.{as_part}
@@ -69,6 +68,7 @@ good_pockets g m k pockets homes shows needs =
 
 -- a plan with the monitors m, these pockets, and good recipes for all links
 pub record IsMade (t : Topo) (m : List ℕ) (pockets : List Pocket) (p : PlanParts) : Type 0 where
+  pub formed : IsWellFormed p
   pub names : p.names ≡ t.names
   pub links : p.links ≡ t.graph.links
   pub monitors : p.monitors ≡ m
@@ -80,11 +80,12 @@ pub record IsMade (t : Topo) (m : List ℕ) (pockets : List Pocket) (p : PlanPar
 
 -- so is what is built of measured links
 pub built_made : {E : Type 0} (t : Topo) (r : Result PlanParts E) (m : List ℕ) (pockets : List Pocket) (pool : List (List ℕ)) (old : List (List Term)) → AreMeasures t.graph (has m) (length t.graph.links) pool old →
-    IfOk r (λ p. p.names ≡ t.names) → IfOk r (λ p. p.links ≡ t.graph.links) → IfOk r (λ p. p.monitors ≡ m) → IfOk r (λ p. p.pockets ≡ map as_part pockets) →
+    IfOk r IsWellFormed → IfOk r (λ p. p.names ≡ t.names) → IfOk r (λ p. p.links ≡ t.graph.links) → IfOk r (λ p. p.monitors ≡ m) → IfOk r (λ p. p.pockets ≡ map as_part pockets) →
     IfOk r (λ p. IsBuilt pool old p.paths p.recipes) → IfOk r (λ p. length p.paths ≤ length pool) → IfOk r (λ p. AreGoodPaths t.graph (has m) p.paths) →
     IfOk r (λ p. (i : ℕ) → i < length old → IsRecipe t.graph.links i (path_terms pool (get_or old i [])) → IsGoodRecipe t.graph p.paths i (get_or p.recipes i [])) → IfOk r (IsMade t m pockets)
-built_made t (Err e) m pockets pool old measured names links monitors parts built few paths kept = tt
-built_made t (Ok p) m pockets pool old measured names links monitors parts built few paths kept = record {
+built_made t (Err e) m pockets pool old measured formed names links monitors parts built few paths kept = tt
+built_made t (Ok p) m pockets pool old measured formed names links monitors parts built few paths kept = record {
+  formed = formed;
   names = names;
   links = links;
   monitors = monitors;
@@ -125,6 +126,7 @@ module _ (t : Topo) (m : List ℕ) (pockets : List Pocket) (topo : IsTopology t)
   planned p made =
       let sets : pocket_sets p.pockets ≡ sets_of pockets = ap pocket_sets made.same_pockets ∙ sets_same pockets in
       record {
+        formed = made.formed;
         good = made_good t m pockets p made below up (good_pockets t.graph (has m) (length m) pockets homes shows needs);
         lowest = rw made.monitors lowest;
         homes = rw (made.monitors, sets) homes;
@@ -150,6 +152,7 @@ pub all_planned_for : {E : Type 0} (t : Topo) (m : List ℕ) (r : Result PlanPar
 all_planned_for t m (Err e) topo below up made = (tt, tt)
 all_planned_for t m (Ok p) topo below up made = (
   record {
+    formed = made.formed;
     good = made_good t m [] p made below up (record { each = λ i d l. absurd (omega (arith, l)); disjoint = λ i j d lt l. absurd (omega (arith, l)) });
     monitors = made.monitors;
     no_pockets = made.same_pockets;

@@ -1,14 +1,16 @@
--- What is promised of a plan: it is good, its monitors are the lowest set, its paths determine every link's delay, and its pockets show that no smaller set does.
+-- What is promised of a plan: it can be spelled, it is good, its monitors are the lowest set, its paths determine every link's delay, and its pockets show that no smaller set does.
 use Rattle.std.specs.Prelude.{ℕ, ◌≡◌, ◌*◌, ◌<◌, ◌≤◌, Bool, List, [], length, slice_index_or}
 use Rattle.tomo_base.specs.Network.{Network}
 use Rattle.tomo_base.specs.Sets.{has, size, nothing}
 use Rattle.tomo_base.specs.Identify.{Identified, Identifies}
 use Rattle.tomo_base.specs.Lowest.{IsLowest}
 use Rattle.tomo_base.specs.Pockets.{Shows, AreHomePockets}
-use Rattle.plan_form.specs.Parts.{PlanParts}
+use Rattle.plan_form.specs.Parts.{PlanParts, IsWellFormed}
 use Rattle.plan_form.specs.Good.{IsGoodPlan, pocket_sets}
 
 pub record IsPlanned (given : List (List ℕ)) (g : Network) (p : PlanParts) : Type 0 where
+  -- the plan can be spelled
+  pub formed : IsWellFormed p
   -- the plan has the topology's names and links, and all its parts are good
   pub good : IsGoodPlan given g p
   -- no identifying set has, for any h, fewer nodes numbered h or above
@@ -24,8 +26,9 @@ pub record IsPlanned (given : List (List ℕ)) (g : Network) (p : PlanParts) : T
   -- every set that identifies, even by every simple path, has at least as many nodes
   pub least : (s : ℕ → Bool) → Identifies g s → length p.monitors ≤ size g s
 
--- what is promised of a plan for given monitors: it is good, and its paths determine every link's delay; it has no pockets
+-- what is promised of a plan for given monitors: it can be spelled, it is good, and its paths determine every link's delay; it has no pockets
 pub record IsPlanFor (given : List (List ℕ)) (g : Network) (m : List ℕ) (p : PlanParts) : Type 0 where
+  pub formed : IsWellFormed p
   pub good : IsGoodPlan given g p
   pub monitors : p.monitors ≡ m
   pub no_pockets : p.pockets ≡ []

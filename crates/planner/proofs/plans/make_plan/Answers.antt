@@ -21,7 +21,7 @@ promised c =
     let held = rw c.graph-2.ensures.graph at c.in_ok-pockets.ensures in
     all_planned c.args.t.now c.in_ok-monitors.monitors c.in_ok-pockets.pockets c.graph.ensures.topology placed.nodes placed.ascending placed.lowest held.homes held.shows held.needs c.build.result
     (built_made c.args.t.now c.build.result c.in_ok-monitors.monitors c.in_ok-pockets.pockets c.in_ok-made.made.pool c.in_ok-made.made.recipes c.in_ok-made.ensures.measures
-    c.build.ensures.names c.build.ensures.links c.build.ensures.monitors c.build.ensures.pockets c.build.ensures.built c.build.ensures.few c.build.ensures.paths c.build.ensures.recipes)
+    c.build.ensures.formed c.build.ensures.names c.build.ensures.links c.build.ensures.monitors c.build.ensures.pockets c.build.ensures.built c.build.ensures.few c.build.ensures.paths c.build.ensures.recipes)
 
 pub returns-clause-planned : goal.returns-clause-planned
 returns-clause-planned c = (promised c).0

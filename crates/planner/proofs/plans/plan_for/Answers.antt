@@ -14,7 +14,7 @@ promised c =
     let built = rw c.new-pockets.ensures at c.build.ensures in
     all_planned_for c.args.t.now c.args.m.now c.build.result c.in_ok-made.ensures.topology c.requires.nodes c.as_slice-ascending.ensures.ascending
     (built_made c.args.t.now c.build.result c.args.m.now [] c.in_ok-made.made.pool c.in_ok-made.made.recipes c.in_ok-made.ensures.measures
-    built.names built.links built.monitors built.pockets built.built built.few built.paths built.recipes)
+    built.formed built.names built.links built.monitors built.pockets built.built built.few built.paths built.recipes)
 
 pub returns-clause-planned : goal.returns-clause-planned
 returns-clause-planned c = (promised c).0

@@ -1,0 +1,55 @@
+-- A good plan has no fault.
+use Rattle.std.proofs.Common.{◌≡◌, ap, ℕ, zero, suc, ◌-◌, ◌<◌, ◌⊎◌, List, [], ◌∷◌, length, slice_get, arith, inl, inr}
+use Rattle.std.specs.List.Sorted.{IsStrictlySortedBy}
+use Rattle.std.specs.declared.cmp.Ordering.TheVariants.{Less}
+use Rattle.tomo_base.specs.Network.{Network}
+use Rattle.tomo_base.specs.Sets.{has}
+use Rattle.simple_path.specs.declared.recipe.Term.{Term}
+use Rattle.plan_form.specs.Good.{AreGoodPockets, AreGoodPaths, AreGoodRecipes}
+use Rattle.plan_form.specs.Order.{path_cmp}
+use Rattle.plan_form.specs.Parts.{PlanPocket}
+use Rattle.cert_check.specs.declared.report.Fault.TheVariants.{Names, Links, Monitor, Pocket, Path, Recipe}
+use Rattle.cert_check.specs.Faults.{AgreeAt, IsGoodPocketAt, IsGoodPathAt, IsGoodRecipeAt, path_at}
+use Rattle.cert_check.specs.Laws.{GoodHasNoFault}
+use Rattle.cert_check.proofs.Places.{ascending_at}
+
+-- equal lists agree at each place
+agree_at : {A : Type 0} (xs ys : List A) (i : ℕ) → xs ≡ ys → AgreeAt xs ys i
+agree_at xs ys i same = ap (λ zs. slice_get zs i) same
+
+-- good pockets are good at each place
+pockets_at : (g : Network) (pockets : List PlanPocket) (i : ℕ) → i < length pockets → AreGoodPockets g pockets → IsGoodPocketAt g pockets i
+pockets_at g pockets i l good =
+    let none : PlanPocket = record { need = 0; nodes = [] } in
+    record { good = good.each i none l; apart = λ j lt. good.disjoint j i none lt l }
+
+-- in lists that are sorted strictly each is less than the next
+sorted_at : (paths : List (List ℕ)) (i : ℕ) → suc i < length paths → IsStrictlySortedBy path_cmp paths → path_cmp (path_at paths i) (path_at paths (suc i)) ≡ Less
+unfolding IsStrictlySortedBy
+sorted_at [] i l up = absurd (omega (arith, l))
+sorted_at (p ∷ []) i l up = absurd (omega (arith, l))
+sorted_at (p ∷ q ∷ ps) zero l up = up.0.0
+sorted_at (p ∷ q ∷ ps) (suc i) l up = sorted_at (q ∷ ps) i (omega (arith, l)) up.1
+
+-- good paths are good at each place
+paths_at : (g : Network) (monitors : List ℕ) (paths : List (List ℕ)) (i : ℕ) → i < length paths → AreGoodPaths g (has monitors) paths → IsGoodPathAt g (has monitors) paths i
+paths_at g monitors paths i l good = record {
+  path = good.each i [] l;
+  turned = good.turned i [] l;
+  above = λ some. let e : suc (i - 1) ≡ i = omega (arith, some) in rw e at (sorted_at paths (i - 1) (omega (arith, e, l)) good.ascending);
+}
+
+-- and good recipes, of which there are as many as links
+recipes_at : (g : Network) (paths : List (List ℕ)) (recipes : List (List Term)) (i : ℕ) → (i < length g.links) ⊎ (i < length recipes) → AreGoodRecipes g paths recipes → IsGoodRecipeAt g paths recipes i
+recipes_at g paths recipes i either good =
+    let stands : i < length recipes = elim either [ inl link ↦ omega (arith, link, good.one_each) | inr recipe ↦ recipe ] in
+    record { is_link = omega (arith, stands, good.one_each); stands = stands; good = good.each i stands }
+
+-- so none is at fault
+pub no_fault : GoodHasNoFault
+no_fault t p (Names i) good fault = fault.1 (agree_at p.names t.names i good.names)
+no_fault t p (Links i) good fault = fault.1.1 (agree_at p.links t.graph.links i good.links)
+no_fault t p (Monitor i) good fault = fault.1.1.1 (ascending_at t.graph.nodes p.monitors good.monitors.nodes good.monitors.ascending i fault.1.0)
+no_fault t p (Pocket i) good fault = fault.2.1.1 (pockets_at t.graph p.pockets i fault.2.0 good.pockets)
+no_fault t p (Path i) good fault = fault.3.1.1 (paths_at t.graph p.monitors p.paths i fault.3.0 good.paths)
+no_fault t p (Recipe i) good fault = fault.5.1 (recipes_at t.graph p.paths p.recipes i fault.4 good.recipes)

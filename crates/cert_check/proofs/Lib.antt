@@ -4,3 +4,4 @@ pub mod Turns
 pub mod Uses
 pub mod Balances
 pub mod Wholes
+pub mod NoFault

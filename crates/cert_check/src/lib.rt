@@ -4,6 +4,7 @@
 mod checking;
 mod counts;
 mod first_parts;
+pub mod laws;
 mod paths;
 mod pockets;
 mod recipes;

@@ -1,0 +1,4 @@
+pub mod PairLists
+pub mod Hits
+pub mod Growth
+pub mod Marking

@@ -46,8 +46,8 @@ recipes_at g paths recipes i good (inr l) = record { is_link = omega (arith, l, 
 -- so no fault is one of a good plan
 pub good_has_no_fault : GoodHasNoFault
 good_has_no_fault t p (Names i) good (before, here) = here (ap (λ names. slice_get names i) good.names)
-good_has_no_fault t p (Links i) good (names, before, here) = here (ap (λ links. slice_get links i) good.links)
-good_has_no_fault t p (Monitor i) good (same, l, before, here) = here (ascending_at t.graph.nodes p.monitors good.monitors.nodes good.monitors.ascending i l)
-good_has_no_fault t p (Pocket i) good (same, monitors, l, before, here) = here (pockets_at t.graph p.pockets good.pockets i l)
-good_has_no_fault t p (Path i) good (same, monitors, pockets, l, before, here) = here (paths_at t.graph (has p.monitors) p.paths good.paths i l)
-good_has_no_fault t p (Recipe i) good (same, monitors, pockets, paths, l, before, here) = here (recipes_at t.graph p.paths p.recipes i good.recipes l)
+good_has_no_fault t p (Links i) good (names, (before, here)) = here (ap (λ links. slice_get links i) good.links)
+good_has_no_fault t p (Monitor i) good (same, (l, (before, here))) = here (ascending_at t.graph.nodes p.monitors good.monitors.nodes good.monitors.ascending i l)
+good_has_no_fault t p (Pocket i) good (same, monitors, (l, (before, here))) = here (pockets_at t.graph p.pockets good.pockets i l)
+good_has_no_fault t p (Path i) good (same, monitors, pockets, (l, (before, here))) = here (paths_at t.graph (has p.monitors) p.paths good.paths i l)
+good_has_no_fault t p (Recipe i) good (same, monitors, pockets, paths, l, (before, here)) = here (recipes_at t.graph p.paths p.recipes i good.recipes l)

@@ -10,3 +10,4 @@ pub mod Ending
 pub mod Named
 pub mod OneAnswer
 pub mod Examples
+pub mod Decimals

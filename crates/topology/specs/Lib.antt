@@ -4,3 +4,4 @@ pub mod Topology
 pub mod Faults
 pub mod Draft
 pub mod Monitors
+pub mod Numbered

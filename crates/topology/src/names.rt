@@ -1,9 +1,11 @@
 // Names, numbered by first appearance.
-ghost use Rattle.std.specs.Prelude.{◌≡◌, ◌+◌, ◌^◌, ◌<◌, [], length, slice_index_or, position, bytes_eq, IfOk, OnOk, OnErr};
+ghost use Rattle.std.specs.Prelude.{◌≡◌, ◌+◌, ◌^◌, ◌<◌, ◌≤◌, [], length, slice_index_or, position, bytes_eq, IfOk, OnOk, OnErr};
 ghost use Rattle.indexmap.specs.IndexSet.{insert_key};
+ghost use Rattle.topology.specs.Numbered as spec;
 ghost use Rattle.topology.specs.Topology.{node_of};
 
 use indexmap::IndexSet;
+use itoa::Buffer;
 use std::alloc::Global;
 use std::marker::Model;
 use tomo_base::NoMemory;
@@ -33,6 +35,19 @@ impl Names {
         Names {
             numbers: IndexSet::new(alloc),
         }
+    }
+
+    /// The numbers below `n` in decimal, ascending.
+    pub(crate) fn decimals(alloc: Global, n: u32) -> Result<Names, NoMemory>
+        requires { n ≤ 1000 }
+        ensures { IfOk result (λ names. names ≡ spec.decimals n) }
+    {
+        let mut names = Names::new(alloc);
+        for v in 0..n {
+            let mut digits = Buffer::new();
+            names.number(alloc, digits.format(v))?;
+        }
+        Ok(names)
     }
 
     /// How many names there are.

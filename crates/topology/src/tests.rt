@@ -1,7 +1,8 @@
-use crate::{MonFault, TopoFault, read_monitors, read_topology};
+use crate::{MonFault, TopoFault, Topology, read_monitors, read_topology};
 use rows::read_rows;
 use std::alloc::Global;
 use std::test::Fail;
+use tomo_base::{Graph, Link, first_apart};
 
 // A field of 64 bytes, and one more.
 const LONG: &[u8] = b"0123456789012345678901234567890123456789012345678901234567890123,b\nb,c\n";
@@ -178,5 +179,24 @@ fn monitors_of_a_star_are_read(rt: HostRuntime) -> Result<(), Fail> {
         let refused = read_monitors(alloc, &t, &read_rows(alloc, text)?);
         assert_eq!(rt; refused.err(), Some(MonFault::Unknown(row)));
     }
+    Ok(())
+}
+
+#[test]
+fn nodes_of_a_chain_are_named_by_their_numbers(rt: HostRuntime) -> Result<(), Fail> {
+    let alloc = rt.alloc();
+    let mut links = Vec::new(alloc);
+    for a in 0..11 {
+        links.push(Link { a, b: a + 1 })?;
+    }
+    assert!(rt; links.len() < 100);
+    let g = Graph::new(alloc, 12, &links).expect(&rt, "no graph");
+    let apart = first_apart(alloc, &g)?;
+    assert!(rt; apart.is_none());
+    let t = Topology::numbered(alloc, g).ok().expect(&rt, "no memory");
+    assert_eq!(rt; t.graph().links().len(), 11);
+    assert!(rt; t.graph().nodes() == 12);
+    assert_eq!(rt; (t.name(0), t.name(9), t.name(11)), ("0", "9", "11"));
+    assert_eq!(rt; (t.find("10"), t.find("12")), (Some(10), None));
     Ok(())
 }

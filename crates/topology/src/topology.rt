@@ -6,6 +6,7 @@ ghost use Rattle.tomo_base.specs.Walks.{IsConnected};
 ghost use Rattle.topology.specs.Draft.{IsDraft};
 ghost use Rattle.topology.specs.Faults.{AllFine, IsTopoFault, IsUnfit, examined};
 ghost use Rattle.rows.specs.Blanks.{trimmed};
+ghost use Rattle.topology.specs.Numbered as spec;
 ghost use Rattle.topology.specs.Topology.{IsTopology, topo_of, topo_with};
 
 use crate::draft::{Draft, draft_of};
@@ -36,6 +37,22 @@ impl Model for Topology {
 }
 
 impl Topology {
+    /// The topology of a graph in which each node has its number, in decimal, for a name. The error hands the graph back, and comes for
+    /// want of memory alone. Time is near to the number of nodes.
+    pub fn numbered(alloc: Global, g: Graph) -> Result<Topology, Graph>
+        requires connected { IsConnected g }
+        requires some_nodes { 3 ≤ g.nodes }
+        requires few_nodes { g.nodes ≤ 1000 }
+        requires few_links { length g.links ≤ 4000 }
+        ensures topology { IfOk result (λ t. t ≡ spec.numbered g) }
+        ensures handed_back { IfErr result (λ back. back ≡ g) }
+    {
+        match Names::decimals(alloc, g.nodes()) {
+            Ok(names) => Ok(Topology { names, graph: g }),
+            Err(_) => Err(g),
+        }
+    }
+
     /// The graph. It takes no memory.
     pub fn graph(&self) -> &Graph
         ensures graph { result.now ≡ self.now.graph }

@@ -1,0 +1,16 @@
+//! Drills: a network is drawn from a seed, planned, checked, measured with drawn delays, and solved.
+#![tactic(auto)]
+
+mod delays;
+mod draws;
+mod growing;
+mod network;
+mod pairs;
+mod report;
+mod run;
+mod solving;
+#[cfg(test)]
+mod tests;
+
+pub use network::generate;
+pub use run::drill;

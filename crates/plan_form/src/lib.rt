@@ -16,6 +16,7 @@ mod sums;
 mod write;
 
 pub use faults::PlanFault;
+pub use numerals::number;
 pub use plan::Plan;
 pub use read::read_plan;
 pub use write::plan_rows;

@@ -1,4 +1,4 @@
-// Numbers as they are spelled in a plan.
+// Numbers as they are spelled in plans and words.
 ghost use Rattle.std.specs.Prelude.{◌≡◌, ◌<◌, ◌↔◌, decimal, length, slice_index, IsTrue};
 ghost use Rattle.plan_form.specs.Parts.{IsSmall};
 ghost use Rattle.plan_form.specs.Values.{DigitsOf, Spells};
@@ -27,8 +27,8 @@ fn is_padded(text: &[u8]) -> bool
     1 < text.len() && text[0] == b'0'
 }
 
-/// The number that is spelled so: digits without a leading zero, `0` itself excepted.
-pub(crate) fn number(text: &[u8]) -> Option<u32>
+/// The number that is spelled so: digits without a leading zero, `0` itself excepted, with a value below 2^32. It takes no memory.
+pub fn number(text: &[u8]) -> Option<u32>
     ensures { Spells IsSmall decimal text.now result }
 {
     if is_padded(text) {

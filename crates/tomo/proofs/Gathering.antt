@@ -118,7 +118,7 @@ abbrev pub Fronts : Option Files → List (List ℕ) → Next → List (List ℕ
 Fronts told names first old new = AddsFront old new names × IfSome told (λ files. AsksOnly files names first old new)
 
 -- before the next name is asked for
-fronts_before : (told : Option Files) (names : List (List ℕ)) (first next : Next) (turn : ℕ) (old new : List (List ℕ)) → Taken told names first turn next → new ≡ old ++ take turn names → Fronts told names first old new
+pub fronts_before : (told : Option Files) (names : List (List ℕ)) (first next : Next) (turn : ℕ) (old new : List (List ℕ)) → Taken told names first turn next → new ≡ old ++ take turn names → Fronts told names first old new
 fronts_before None names first next turn old new taken asked = ((turn, asked), tt)
 fronts_before (Some files) names first next turn old new taken asked = ((turn, asked), (take turn names, asked, asks-before files names first turn next taken))
 

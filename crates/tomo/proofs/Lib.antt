@@ -6,3 +6,5 @@ pub mod Taking
 pub mod Naming
 pub mod TermRows
 pub mod Solved
+pub mod Numerals
+pub mod Retaking

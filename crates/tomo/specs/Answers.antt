@@ -7,7 +7,7 @@ use Rattle.tomo_base.specs.Table.{JoinsAt}
 use Rattle.tomo_base.specs.Recipes.{IsRecipe}
 use Rattle.tomo_base.specs.Sets.{has}
 use Rattle.tomo_base.specs.Identify.{Identifies, IsMonitorPath}
-use Rattle.rows.specs.Rows.{Row}
+use Rattle.rows.specs.Rows.{Row, text_of}
 use Rattle.topology.specs.Topology.{Topo}
 use Rattle.judge.specs.Verdict.{IsFoundBad}
 use Rattle.cert_check.specs.declared.report.Report.{Report}
@@ -15,15 +15,20 @@ use Rattle.cert_check.specs.declared.report.Report.TheVariants.{Good, Bad}
 use Rattle.cert_check.specs.Reports.{IsReport}
 use Rattle.plan_form.specs.Parts.{PlanParts}
 use Rattle.plan_form.specs.PlanRows.{plan_rows}
+use Rattle.plan_form.specs.Laws.{HoldsPlan}
 use Rattle.plan_form.specs.Order.{path_cmp}
 use Rattle.plan_form.specs.Good.{EndsAscend}
 use Rattle.planner.specs.Planned.{IsPlanned, IsPlanFor}
-use Rattle.tomo.specs.Refusals.{refused, fault_part, fault_number}
+use Rattle.drill.specs.Drill.{IsDrill}
+use Rattle.tomo.specs.declared.numbers.DrillNumbers.{DrillNumbers}
+use Rattle.tomo.specs.Table.{limit}
+use Rattle.tomo.specs.declared.table.Kind.TheVariants.{PlanFile}
+use Rattle.tomo.specs.Refusals.{refused, only, fault_part, fault_number}
 use Rattle.tomo.specs.Rounds.{Solves}
 use Rattle.tomo.specs.declared.status.Status.{Status}
 use Rattle.tomo.specs.declared.status.Status.TheVariants.{Done, Negative, BadInput}
 use Rattle.tomo.specs.declared.machine.Inputs.{Inputs}
-use Rattle.tomo.specs.declared.machine.Inputs.TheVariants.{Plan, Judge, Paths, Link, Check, Solve}
+use Rattle.tomo.specs.declared.machine.Inputs.TheVariants.{Plan, Judge, Paths, Link, Check, Solve, Drill}
 use Rattle.tomo.specs.declared.machine.End.{End}
 use Rattle.tomo.specs.declared.machine.End.TheVariants.{Ready, Refused}
 
@@ -43,14 +48,19 @@ TellsBad t monitors status rows = (status ≡ Negative) × (nodes : List ℕ) ×
 abbrev pub Judges : Topo → List ℕ → Status → List Row → Type 0
 Judges t monitors status rows = ((status ≡ Done) × Identifies t.graph (has monitors) × (rows ≡ yes_row (length monitors) ∷ [])) ⊎ TellsBad t monitors status rows
 
+-- the text of the plan's rows holds the plan and no other, and is short enough for the file of a plan
+pub record IsKept (p : PlanParts) : Type 0 where
+  pub back : HoldsPlan (text_of (plan_rows p)) p
+  pub short : length (text_of (plan_rows p)) ≤ limit PlanFile
+
 -- a plan of the topology
 abbrev pub Plans : Topo → Status → List Row → Type 0
-Plans t status rows = (status ≡ Done) × (p : PlanParts) × IsPlanned t.names t.graph p × (rows ≡ plan_rows p)
+Plans t status rows = (status ≡ Done) × (p : PlanParts) × IsPlanned t.names t.graph p × IsKept p × (rows ≡ plan_rows p)
 
 -- a plan for the monitors, where they identify every link
 abbrev pub PlansFor : Topo → List ℕ → Status → List Row → Type 0
 PlansFor t monitors status rows =
-    ((status ≡ Done) × Identifies t.graph (has monitors) × (p : PlanParts) × IsPlanFor t.names t.graph monitors p × (rows ≡ plan_rows p)) ⊎ TellsBad t monitors status rows
+    ((status ≡ Done) × Identifies t.graph (has monitors) × (p : PlanParts) × IsPlanFor t.names t.graph monitors p × IsKept p × (rows ≡ plan_rows p)) ⊎ TellsBad t monitors status rows
 
 -- a term: its coefficient, and the names along its path
 abbrev pub term_row : List (List ℕ) → ℤ × List ℕ → Row
@@ -102,6 +112,10 @@ report_status (Bad f) = Negative
 abbrev pub Reports : Topo → PlanParts → Status → List Row → Type 0
 Reports t p status rows = (r : Report) × IsReport t p r × (status ≡ report_status r) × (rows ≡ report_row r ∷ [])
 
+-- the rows of a drill
+abbrev pub Drills : DrillNumbers → Status → List Row → Type 0
+Drills x status rows = (status ≡ Done) × IsDrill x.seed x.nodes x.links (only rows)
+
 -- the answers of each command, over all that it has read, and its other words
 abbrev pub Answers : List (List ℕ) → Inputs → Status → List Row → Type 0
 Answers others (Plan t) status rows = Plans t status rows
@@ -110,6 +124,7 @@ Answers others (Paths p) status rows = PlansFor p.topology p.monitors status row
 Answers others (Link p) status rows = TellsLink p.topology p.monitors (slice_index_or others 0 []) (slice_index_or others 1 []) status rows
 Answers others (Check c) status rows = Reports c.topology c.plan status rows
 Answers others (Solve m) status rows = Solves m.checked.topology m.checked.plan m.rounds status rows
+Answers others (Drill numbers) status rows = Drills numbers status rows
 
 -- the answers where the reading ended
 abbrev pub Ends : List (List ℕ) → End → Status → List Row → Type 0

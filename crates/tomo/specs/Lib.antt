@@ -1,4 +1,5 @@
 pub mod OneProof
+pub mod Numbers
 pub mod Table
 pub mod Refusals
 pub mod Machine
@@ -7,3 +8,4 @@ pub mod Text
 pub mod Rounds
 pub mod Answers
 pub mod Run
+pub mod Headline

@@ -1,5 +1,5 @@
 -- How one file after the other is taken in.
-use Rattle.std.specs.Prelude.{ℕ, ◌≡◌, ◌≢◌, ◌+◌, ◌<◌, ◌⊎◌, List, length, codes, decimal, Bool, Option, nat_lt, Ok, MatchBool}
+use Rattle.std.specs.Prelude.{ℕ, ◌≡◌, ◌≢◌, ◌+◌, ◌<◌, ◌⊎◌, List, length, codes, decimal, Bool, true, Option, nat_lt, Ok, MatchBool}
 use Rattle.outside.specs.Shelf.{Files, Gives, Tells}
 use Rattle.outside.specs.declared.shelf.Got.{Got}
 use Rattle.rows.specs.Rows.{Row, rows_of}
@@ -13,13 +13,15 @@ use Rattle.topology.specs.Monitors.{AllKnown, IsMonFault, monitors_of}
 use Rattle.tomo.specs.Table.{limit, files_of}
 use Rattle.tomo.specs.Refusals.{refused, topology_reason, topology_place, monitor_reason, monitor_place, plan_reason, plan_place, check_reason, fault_number, round_reason, round_place}
 use Rattle.tomo.specs.declared.table.Command.{Command}
-use Rattle.tomo.specs.declared.table.Command.TheVariants.{Plan, WithMonitors, WithPlan}
+use Rattle.tomo.specs.declared.table.Command.TheVariants.{OnTopology, Drill}
+use Rattle.tomo.specs.declared.table.TopologyTask.{TopologyTask}
+use Rattle.tomo.specs.declared.table.TopologyTask.TheVariants.{Plan, WithMonitors, WithPlan}
 use Rattle.tomo.specs.declared.table.MonitorTask.{MonitorTask}
 use Rattle.tomo.specs.declared.table.MonitorTask.TheVariants.{Judge, Paths, Link}
 use Rattle.tomo.specs.declared.table.Kind.{Kind}
 use Rattle.tomo.specs.declared.table.Kind.TheVariants.{TopologyFile, MonitorFile, PlanFile, RoundFile}
 use Rattle.tomo.specs.declared.table.Shape.{Shape}
-use Rattle.plan_form.specs.Parts.{PlanParts}
+use Rattle.plan_form.specs.Parts.{PlanParts, IsWellFormed}
 use Rattle.plan_form.specs.PlanRows.{plan_rows}
 use Rattle.plan_form.specs.Reading.{IsFirstPlanFault}
 use Rattle.plan_form.specs.Good.{IsGoodPlan}
@@ -38,29 +40,36 @@ use Rattle.tomo.specs.declared.checked.Checked.{Checked}
 use Rattle.tomo.specs.declared.checked.Measured.{Measured}
 use Rattle.tomo.specs.declared.machine.Wants.{Wants}
 use Rattle.tomo.specs.declared.machine.Wants.TheVariants.{Topology, Monitors, APlan, Sums}
+use Rattle.tomo.specs.declared.machine.Inputs.{Inputs}
 use Rattle.tomo.specs.declared.machine.Inputs.TheVariants as inputs
+use Rattle.tomo.specs.declared.machine.End.{End}
+use Rattle.tomo.specs.Numbers.{fit}
 use Rattle.tomo.specs.declared.machine.End.TheVariants.{Ready, Refused}
 use Rattle.tomo.specs.declared.machine.Next.{Next}
 use Rattle.tomo.specs.declared.machine.Next.TheVariants.{Ask, Stop}
 
 -- what the next file holds
 abbrev pub kind_of : Wants → Kind
-kind_of (Topology command header) = TopologyFile
+kind_of (Topology task header) = TopologyFile
 kind_of (Monitors task topology) = MonitorFile
 kind_of (APlan task topology) = PlanFile
 kind_of (Sums checked) = RoundFile
 
 -- how many files are still to be asked for
 abbrev pub files_left : Wants → ℕ
-files_left (Topology command header) = length (files_of command)
+files_left (Topology task header) = length (files_of (OnTopology task))
 files_left (Monitors task topology) = 1
 files_left (APlan Check topology) = 1
 files_left (APlan Solve topology) = 2
 files_left (Sums checked) = 1
 
--- what a command wants first
+-- what a command wants first: a drill wants no file
+abbrev pub begun : Command → Bool → Next
+begun (OnTopology task) header = Ask (Topology task header)
+begun (Drill numbers) header = Stop (Ready (inputs.Drill numbers))
+
 abbrev pub start : Shape → Next
-start shape = Ask (Topology shape.command shape.header)
+start shape = begun shape.command shape.header
 
 -- the rows are those of a topology, without a fault
 pub record IsRead (header : Bool) (rows : List Row) (t : Topo) : Type 0 where
@@ -68,16 +77,16 @@ pub record IsRead (header : Bool) (rows : List Row) (t : Topo) : Type 0 where
   pub named : t ≡ topo_of (examined header rows)
   pub topology : IsTopology t
 
--- what a command does with the topology
-abbrev pub with_topology : Command → Topo → Next
+-- what a task does with its topology
+abbrev pub with_topology : TopologyTask → Topo → Next
 with_topology Plan t = Stop (Ready (inputs.Plan t))
 with_topology (WithMonitors task) t = Ask (Monitors task t)
 with_topology (WithPlan task) t = Ask (APlan task t)
 
 -- what the rows of a topology file do: they are a topology, or refused for their first fault
-abbrev pub TakesTopology : Command → Bool → List ℕ → List Row → Next → Type 0
-TakesTopology command header name rows next =
-    ((t : Topo) × IsRead header rows t × (next ≡ with_topology command t))
+abbrev pub TakesTopology : TopologyTask → Bool → List ℕ → List Row → Next → Type 0
+TakesTopology task header name rows next =
+    ((t : Topo) × IsRead header rows t × (next ≡ with_topology task t))
     ⊎ ((f : TopoFault) × (f ≢ faults.NoMemory) × IsTopoFault header rows f
     × (next ≡ Stop (Refused (refused name (topology_reason f) (topology_place (names_of (examined header rows)) f)))))
 
@@ -107,7 +116,7 @@ GoesOn Solve t p name next = TakesGood t p name next
 -- what the rows of a plan file do: they are those of a plan, or refused for their first fault
 abbrev pub TakesPlan : PlanTask → Topo → List ℕ → List Row → Next → Type 0
 TakesPlan task t name rows next =
-    ((p : PlanParts) × (rows ≡ plan_rows p) × GoesOn task t p name next)
+    ((p : PlanParts) × IsWellFormed p × (rows ≡ plan_rows p) × GoesOn task t p name next)
     ⊎ ((f : PlanFault) × (f ≢ plan_faults.NoMemory) × IsFirstPlanFault rows f × (next ≡ Stop (Refused (refused name (plan_reason f) (plan_place f)))))
 
 -- what the rows of a file of rounds do: they are rounds over the plan, or refused for their first fault
@@ -118,7 +127,7 @@ TakesSums c name rows next =
 
 -- what the rows of a file do
 abbrev pub Takes : Wants → List ℕ → List Row → Next → Type 0
-Takes (Topology command header) name rows next = TakesTopology command header name rows next
+Takes (Topology task header) name rows next = TakesTopology task header name rows next
 Takes (Monitors task t) name rows next = TakesMonitors task t name rows next
 Takes (APlan task t) name rows next = TakesPlan task t name rows next
 Takes (Sums c) name rows next = TakesSums c name rows next
@@ -135,10 +144,35 @@ abbrev pub StepsBy : Wants → List ℕ → Got → List ℕ → Next → Type 0
 StepsBy wanted name got content next =
     (told : Option Files) → Gives told name (limit (kind_of wanted)) (Ok got) content → Tells told name (λ file. Steps wanted name file next)
 
+-- a command with inputs that files hold
+abbrev pub IsOfFiles : Inputs → Type 0
+IsOfFiles (inputs.Plan t) = Unit {0}
+IsOfFiles (inputs.Judge p) = Unit {0}
+IsOfFiles (inputs.Paths p) = Unit {0}
+IsOfFiles (inputs.Link p) = Unit {0}
+IsOfFiles (inputs.Check c) = Unit {0}
+IsOfFiles (inputs.Solve m) = Unit {0}
+IsOfFiles (inputs.Drill numbers) = ⊥
+
+-- the numbers of a drill are fit
+abbrev pub AreFit : Inputs → Type 0
+AreFit (inputs.Plan t) = Unit {0}
+AreFit (inputs.Judge p) = Unit {0}
+AreFit (inputs.Paths p) = Unit {0}
+AreFit (inputs.Link p) = Unit {0}
+AreFit (inputs.Check c) = Unit {0}
+AreFit (inputs.Solve m) = Unit {0}
+AreFit (inputs.Drill numbers) = fit numbers ≡ true
+
+-- so they are where the reading ends
+abbrev pub EndIsFit : End → Type 0
+EndIsFit (Ready all) = AreFit all
+EndIsFit (Refused rows) = Unit {0}
+
 -- one file fewer is left than before
 abbrev pub Fewer : ℕ → Next → Type 0
 Fewer left (Ask later) = (left ≡ files_left later + 1) × (0 < files_left later)
-Fewer left (Stop (Ready all)) = left ≡ 1
+Fewer left (Stop (Ready all)) = (left ≡ 1) × IsOfFiles all
 Fewer left (Stop (Refused rows)) = Unit {0}
 
 -- all files are left

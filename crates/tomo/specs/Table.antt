@@ -3,12 +3,16 @@ use Rattle.std.specs.Prelude.{ℕ, ◌+◌, ◌-◌, ◌∷◌, [], ◌&&◌, Li
 use Rattle.std.specs.List.{starts_with}
 use Rattle.std.specs.Str.{bytes_eq}
 use Rattle.tomo.specs.declared.table.Command.{Command}
-use Rattle.tomo.specs.declared.table.Command.TheVariants.{Plan, WithMonitors, WithPlan}
+use Rattle.tomo.specs.declared.table.Command.TheVariants.{OnTopology, Drill}
+use Rattle.tomo.specs.declared.table.TopologyTask.{TopologyTask}
+use Rattle.tomo.specs.declared.table.TopologyTask.TheVariants.{Plan, WithMonitors, WithPlan}
 use Rattle.tomo.specs.declared.table.MonitorTask.TheVariants.{Judge, Paths, Link}
 use Rattle.tomo.specs.declared.table.PlanTask.TheVariants.{Check, Solve}
 use Rattle.tomo.specs.declared.table.Kind.{Kind}
 use Rattle.tomo.specs.declared.table.Kind.TheVariants.{TopologyFile, MonitorFile, PlanFile, RoundFile}
 use Rattle.tomo.specs.declared.table.Shape.{Shape}
+use Rattle.tomo.specs.declared.numbers.DrillNumbers.{DrillNumbers}
+use Rattle.tomo.specs.Numbers.{numbers_of}
 
 -- the most bytes of a file
 abbrev pub limit : Kind → ℕ
@@ -17,9 +21,9 @@ limit MonitorFile = 4194304
 limit PlanFile = 134217728
 limit RoundFile = 16777216
 
--- the word of each command
-abbrev pub command_of : List ℕ → Option Command
-command_of word =
+-- the word of each task on a topology
+abbrev pub task_of : List ℕ → Option TopologyTask
+task_of word =
     if bytes_eq word (codes "plan") then Some Plan else
     (if bytes_eq word (codes "judge") then Some (WithMonitors Judge) else
     (if bytes_eq word (codes "paths") then Some (WithMonitors Paths) else
@@ -29,18 +33,20 @@ command_of word =
 
 -- the files of each command, in the order in which they are asked for
 abbrev pub files_of : Command → List Kind
-files_of Plan = TopologyFile ∷ []
-files_of (WithMonitors task) = TopologyFile ∷ MonitorFile ∷ []
-files_of (WithPlan Check) = TopologyFile ∷ PlanFile ∷ []
-files_of (WithPlan Solve) = TopologyFile ∷ PlanFile ∷ RoundFile ∷ []
+files_of (OnTopology Plan) = TopologyFile ∷ []
+files_of (OnTopology (WithMonitors task)) = TopologyFile ∷ MonitorFile ∷ []
+files_of (OnTopology (WithPlan Check)) = TopologyFile ∷ PlanFile ∷ []
+files_of (OnTopology (WithPlan Solve)) = TopologyFile ∷ PlanFile ∷ RoundFile ∷ []
+files_of (Drill numbers) = []
 
 -- how many words a command takes after its files
 abbrev pub other_words : Command → ℕ
-other_words Plan = 0
-other_words (WithMonitors Judge) = 0
-other_words (WithMonitors Paths) = 0
-other_words (WithMonitors Link) = 2
-other_words (WithPlan task) = 0
+other_words (OnTopology Plan) = 0
+other_words (OnTopology (WithMonitors Judge)) = 0
+other_words (OnTopology (WithMonitors Paths)) = 0
+other_words (OnTopology (WithMonitors Link)) = 2
+other_words (OnTopology (WithPlan task)) = 0
+other_words (Drill numbers) = 3
 
 -- how many words a command takes in all after its own and the option
 abbrev pub word_count : Command → ℕ
@@ -69,15 +75,25 @@ abbrev pub fits : List (List ℕ) → Command → ℕ → Bool
 fits words command first =
     (nat_lt first (length words + 1) && (length words - first == word_count command)) && no_options (drop first words)
 
--- the shape of words that begin with a command
-abbrev pub shaped : List (List ℕ) → Option Command → Option Shape
+-- the shape of words that begin with the word of a task
+abbrev pub shaped : List (List ℕ) → Option TopologyTask → Option Shape
 shaped words None = None
-shaped words (Some command) =
-    if fits words command (first_place (has_header words)) then Some (record { command = command; header = has_header words }) else None
+shaped words (Some task) =
+    if fits words (OnTopology task) (first_place (has_header words)) then Some (record { command = OnTopology task; header = has_header words }) else None
+
+-- the shape of a drill
+abbrev pub drill_with : Option DrillNumbers → Option Shape
+drill_with None = None
+drill_with (Some numbers) = Some (record { command = Drill numbers; header = false })
+
+-- the shape of words that begin with the word of a drill: three numbers follow
+abbrev pub drill_shape : List (List ℕ) → Option Shape
+drill_shape words = if length words == 4 then drill_with (numbers_of words) else None
 
 -- the shape of the words, where they have one
 abbrev pub shape : List (List ℕ) → Option Shape
-shape words = shaped words (command_of (slice_index_or words 0 []))
+shape words =
+    if bytes_eq (slice_index_or words 0 []) (codes "drill") then drill_shape words else shaped words (task_of (slice_index_or words 0 []))
 
 -- the names of the files of a shape
 abbrev pub names_of : Shape → List (List ℕ) → List (List ℕ)

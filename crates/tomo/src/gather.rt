@@ -2,7 +2,7 @@
 ghost use Rattle.std.specs.Prelude.{◌≡◌, ◌≢◌, Some, IfOk, IfSome, IsTrue};
 ghost use Rattle.outside.specs.Causes.{Rose};
 ghost use Rattle.tomo.specs.Table.{shape as shape_in, file_words};
-ghost use Rattle.tomo.specs.Machine.{start};
+ghost use Rattle.tomo.specs.Machine.{start, EndIsFit};
 ghost use Rattle.tomo.specs.Run.{AddsFront, AsksOnly, AsksAll, KnowsAll, LeadsTo};
 
 use crate::machine::{End, Next, begin, feed};
@@ -23,6 +23,7 @@ pub fn gather<S: Shelf>(
     ensures stops { IfSome (S.told shelf.old) (λ files. AsksOnly files (file_words words.now) (start shape) (S.asked shelf.old) (S.asked shelf.new)) }
     ensures all_asked { IfOk result (λ end. AsksAll (S.asked shelf.old) (S.asked shelf.new) (file_words words.now) end) }
     ensures leads { IfOk result (λ end. LeadsTo (S.told shelf.old) (file_words words.now) (start shape) end) }
+    ensures fit { IfOk result EndIsFit }
     ensures cause { result ≡ Err ShelfFault.Failed → Rose (S.faults shelf.old) (S.faults shelf.new) }
     ensures sure { IsTrue (S.sure shelf.old) → KnowsAll (S.told shelf.old) (file_words words.now) → result ≢ Err ShelfFault.Failed }
 {

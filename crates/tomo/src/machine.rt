@@ -4,13 +4,15 @@ ghost use Rattle.rows.specs.Rows.{rows_of, byte_count};
 ghost use Rattle.tomo.specs.Table.{files_of, limit};
 ghost use Rattle.tomo.specs.Machine.{files_left, kind_of, start, with_topology as then_topology, TakesTopology, with_monitors as then_monitors, TakesMonitors, TakesGood, GoesOn, TakesPlan, TakesSums, Takes, StepsBy, Fewer, StartsWith};
 ghost use Rattle.tomo.specs.declared.machine.Wants.TheVariants.{APlan};
+ghost use Rattle.tomo.specs.declared.table.Command.TheVariants.{OnTopology};
 
 use crate::checked::{Checked, Measured};
+use crate::numbers::DrillNumbers;
 use crate::placed::Placed;
 use crate::refusal::{
     refuse_at, refuse_fault, refuse_monitors, refuse_plan, refuse_rounds, refuse_topology,
 };
-use crate::table::{Command, Kind, MonitorTask, PlanTask, Shape, limit_of};
+use crate::table::{Command, Kind, MonitorTask, PlanTask, Shape, TopologyTask, limit_of};
 use cert_check::{Report, check};
 use outside::Got;
 use plan_form::{Plan, read_plan};
@@ -24,9 +26,9 @@ use topology::{Topology, read_monitors, read_topology};
 /// The file that is wanted next, with what was read before it.
 #[derive(Drop)]
 pub enum Wants {
-    /// A topology, for a command; its first row may be a header.
+    /// A topology; its first row may be a header.
     Topology {
-        command: Command,
+        task: TopologyTask,
         header: bool,
     },
     /// Monitors of a topology.
@@ -59,6 +61,7 @@ pub enum Inputs {
     Link(Placed),
     Check(Planned),
     Solve(Measured),
+    Drill(DrillNumbers),
 }
 
 /// Where the reading ends: with all inputs, or with the row that refuses one.
@@ -94,37 +97,40 @@ pub fn begin(shape: Shape) -> Next
     ensures first { result ≡ start shape }
     ensures count { StartsWith shape result }
 {
-    Next::Ask(Wants::Topology {
-        command: shape.command,
-        header: shape.header,
-    })
+    match shape.command {
+        Command::OnTopology(task) => Next::Ask(Wants::Topology {
+            task,
+            header: shape.header,
+        }),
+        Command::Drill(numbers) => Next::Stop(End::Ready(Inputs::Drill(numbers))),
+    }
 }
 
-// What a command does with its topology.
-fn with_topology(command: Command, topology: Topology) -> Next
-    ensures after { result ≡ then_topology command topology }
-    ensures fewer { Fewer (length (files_of command)) result }
+// What a task does with its topology.
+fn with_topology(task: TopologyTask, topology: Topology) -> Next
+    ensures after { result ≡ then_topology task topology }
+    ensures fewer { Fewer (length (files_of (OnTopology task))) result }
 {
-    match command {
-        Command::Plan => Next::Stop(End::Ready(Inputs::Plan(topology))),
-        Command::WithMonitors(task) => Next::Ask(Wants::Monitors { task, topology }),
-        Command::WithPlan(task) => Next::Ask(Wants::APlan { task, topology }),
+    match task {
+        TopologyTask::Plan => Next::Stop(End::Ready(Inputs::Plan(topology))),
+        TopologyTask::WithMonitors(task) => Next::Ask(Wants::Monitors { task, topology }),
+        TopologyTask::WithPlan(task) => Next::Ask(Wants::APlan { task, topology }),
     }
 }
 
 // Takes in a topology.
 fn take_topology(
     alloc: Global,
-    command: Command,
+    task: TopologyTask,
     header: bool,
     name: &str,
     rows: &Rows,
 ) -> Result<Next, NoMemory>
-    ensures taken { IfOk result (λ next. TakesTopology command header name.now rows.now.closed next) }
-    ensures fewer { IfOk result (λ next. Fewer (length (files_of command)) next) }
+    ensures taken { IfOk result (λ next. TakesTopology task header name.now rows.now.closed next) }
+    ensures fewer { IfOk result (λ next. Fewer (length (files_of (OnTopology task))) next) }
 {
     match read_topology(alloc, rows, header) {
-        Ok(topology) => Ok(with_topology(command, topology)),
+        Ok(topology) => Ok(with_topology(task, topology)),
         Err(fault) => Ok(Next::Stop(End::Refused(refuse_topology(
             alloc, name, rows, header, fault,
         )?))),
@@ -228,7 +234,7 @@ fn take_in(alloc: Global, wants: Wants, name: &str, content: &[u8]) -> Result<Ne
     rows_are_no_more_than_bytes();
     let rows = read_rows(alloc, content)?;
     match wants {
-        Wants::Topology { command, header } => take_topology(alloc, command, header, name, &rows),
+        Wants::Topology { task, header } => take_topology(alloc, task, header, name, &rows),
         Wants::Monitors { task, topology } => take_monitors(alloc, task, topology, name, &rows),
         Wants::APlan { task, topology } => take_plan(alloc, task, topology, name, &rows),
         Wants::Sums(checked) => take_sums(alloc, checked, name, &rows),

@@ -5,10 +5,13 @@ ghost use Rattle.std.specs.Prelude.{◌≡◌};
 
 mod answer;
 mod checked;
+mod drilling;
 mod gather;
 mod judging;
+mod laws;
 mod linking;
 mod machine;
+mod numbers;
 mod placed;
 mod planning;
 mod refusal;

@@ -1,12 +1,20 @@
 // The table of commands: the words that each takes, and the shape of a command line.
-ghost use Rattle.std.specs.Prelude.{◌≡◌, ◌≤◌, [], length, drop, Option, Some, slice_index_or};
-ghost use Rattle.tomo.specs.Table.{command_of, files_of, word_count, first_place, begins_option, no_options, shape, shape as shape_in, last_words, limit};
+ghost use Rattle.std.specs.Prelude.{◌≡◌, ◌<◌, ◌≤◌, [], length, drop, Option, Some, slice_index_or};
+ghost use Rattle.tomo.specs.Table.{task_of, files_of, word_count, first_place, begins_option, no_options, shaped, drill_shape as shape_of_drill, shape, shape as shape_in, last_words, limit};
 
+use crate::numbers::{DrillNumbers, drill_numbers};
 use tomo_base::Words;
 
 /// What the program is asked to do.
 #[derive(Clone, Copy, Debug, PartialEq, Eq)]
 pub enum Command {
+    OnTopology(TopologyTask),
+    Drill(DrillNumbers),
+}
+
+/// What is done with a topology.
+#[derive(Clone, Copy, Debug, PartialEq, Eq)]
+pub enum TopologyTask {
     Plan,
     WithMonitors(MonitorTask),
     WithPlan(PlanTask),
@@ -54,17 +62,17 @@ pub fn limit_of(kind: Kind) -> u64
     }
 }
 
-// The command that a word names.
-fn named_command(word: &str) -> Option<Command>
-    ensures { result ≡ command_of word.now }
+// The task on a topology that a word names.
+fn named_task(word: &str) -> Option<TopologyTask>
+    ensures { result ≡ task_of word.now }
 {
     match word {
-        "plan" => Some(Command::Plan),
-        "judge" => Some(Command::WithMonitors(MonitorTask::Judge)),
-        "paths" => Some(Command::WithMonitors(MonitorTask::Paths)),
-        "link" => Some(Command::WithMonitors(MonitorTask::Link)),
-        "check" => Some(Command::WithPlan(PlanTask::Check)),
-        "solve" => Some(Command::WithPlan(PlanTask::Solve)),
+        "plan" => Some(TopologyTask::Plan),
+        "judge" => Some(TopologyTask::WithMonitors(MonitorTask::Judge)),
+        "paths" => Some(TopologyTask::WithMonitors(MonitorTask::Paths)),
+        "link" => Some(TopologyTask::WithMonitors(MonitorTask::Link)),
+        "check" => Some(TopologyTask::WithPlan(PlanTask::Check)),
+        "solve" => Some(TopologyTask::WithPlan(PlanTask::Solve)),
         _ => None,
     }
 }
@@ -74,10 +82,11 @@ fn file_count(command: Command) -> u32
     ensures { result ≡ length (files_of command) }
 {
     match command {
-        Command::Plan => 1,
-        Command::WithMonitors(_) => 2,
-        Command::WithPlan(PlanTask::Check) => 2,
-        Command::WithPlan(PlanTask::Solve) => 3,
+        Command::OnTopology(TopologyTask::Plan) => 1,
+        Command::OnTopology(TopologyTask::WithMonitors(_)) => 2,
+        Command::OnTopology(TopologyTask::WithPlan(PlanTask::Check)) => 2,
+        Command::OnTopology(TopologyTask::WithPlan(PlanTask::Solve)) => 3,
+        Command::Drill(_) => 0,
     }
 }
 
@@ -86,11 +95,12 @@ fn words_after(command: Command) -> u32
     ensures { result ≡ word_count command }
 {
     match command {
-        Command::Plan => 1,
-        Command::WithMonitors(MonitorTask::Judge | MonitorTask::Paths) => 2,
-        Command::WithMonitors(MonitorTask::Link) => 4,
-        Command::WithPlan(PlanTask::Check) => 2,
-        Command::WithPlan(PlanTask::Solve) => 3,
+        Command::OnTopology(TopologyTask::Plan) => 1,
+        Command::OnTopology(TopologyTask::WithMonitors(MonitorTask::Link)) => 4,
+        Command::OnTopology(TopologyTask::WithMonitors(_)) => 2,
+        Command::OnTopology(TopologyTask::WithPlan(PlanTask::Check)) => 2,
+        Command::OnTopology(TopologyTask::WithPlan(PlanTask::Solve)) => 3,
+        Command::Drill(_) => 3,
     }
 }
 
@@ -123,14 +133,26 @@ impl Shape {
     }
 }
 
-/// The shape of the words, where they have one.
-pub fn shape_of(words: &Words) -> Option<Shape>
-    ensures { result ≡ shape words.now }
+// The shape of words that begin with the word of a drill.
+fn drill_shape(words: &Words) -> Option<Shape>
+    ensures { result ≡ shape_of_drill words.now }
 {
-    if words.len() == 0 {
+    if words.len() != 4 {
         return None;
     }
-    let command = named_command(words.at(0))?;
+    let numbers = drill_numbers(words)?;
+    Some(Shape {
+        command: Command::Drill(numbers),
+        header: false,
+    })
+}
+
+// The shape of words that begin with the word of a task on a topology.
+fn topology_shape(words: &Words) -> Option<Shape>
+    requires { 0 < length words.now }
+    ensures { result ≡ shaped words.now (task_of (slice_index_or words.now 0 [])) }
+{
+    let command = Command::OnTopology(named_task(words.at(0))?);
     let header = words.len() > 1 && words.at(1) == "--header";
     let shape = Shape { command, header };
     let first = shape.first();
@@ -141,6 +163,20 @@ pub fn shape_of(words: &Words) -> Option<Shape>
         Some(shape)
     } else {
         None
+    }
+}
+
+/// The shape of the words, where they have one.
+pub fn shape_of(words: &Words) -> Option<Shape>
+    ensures { result ≡ shape words.now }
+{
+    if words.len() == 0 {
+        return None;
+    }
+    if words.at(0) == "drill" {
+        drill_shape(words)
+    } else {
+        topology_shape(words)
     }
 }
 

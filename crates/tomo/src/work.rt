@@ -3,9 +3,11 @@ ghost use Rattle.std.specs.Prelude.{◌≡◌, Some, IfOk, List};
 ghost use Rattle.rows.specs.Rows.{Row, text_of};
 ghost use Rattle.tomo.specs.Status.{IsAnswered};
 ghost use Rattle.tomo.specs.Table.{shape as shape_in, last_words};
+ghost use Rattle.tomo.specs.Machine.{AreFit, EndIsFit};
 ghost use Rattle.tomo.specs.Answers.{Answers, Ends};
 
 use crate::answer::Answer;
+use crate::drilling::tell_drill;
 use crate::judging::judge_monitors;
 use crate::linking::tell_link;
 use crate::machine::{End, Inputs};
@@ -27,7 +29,8 @@ pub struct Output {
 
 // Does a command.
 fn work(alloc: Global, words: &Words, shape: Shape, inputs: Inputs) -> Result<Answer, NoMemory>
-    requires { shape_in words.now ≡ Some shape }
+    requires shape { shape_in words.now ≡ Some shape }
+    requires fit { AreFit inputs }
     ensures { IfOk result (λ a. Answers (last_words words.now) inputs a.status a.rows.closed) }
 {
     match inputs {
@@ -40,12 +43,14 @@ fn work(alloc: Global, words: &Words, shape: Shape, inputs: Inputs) -> Result<An
         }
         Inputs::Check(planned) => check_plan(alloc, &planned),
         Inputs::Solve(measured) => solve_rounds(alloc, &measured),
+        Inputs::Drill(numbers) => tell_drill(alloc, numbers),
     }
 }
 
 // The answer where the reading ended.
 fn answer_at(alloc: Global, words: &Words, shape: Shape, end: End) -> Result<Answer, NoMemory>
-    requires { shape_in words.now ≡ Some shape }
+    requires shape { shape_in words.now ≡ Some shape }
+    requires fit { EndIsFit end }
     ensures { IfOk result (λ a. Ends (last_words words.now) end a.status a.rows.closed) }
 {
     match end {
@@ -59,7 +64,8 @@ fn answer_at(alloc: Global, words: &Words, shape: Shape, end: End) -> Result<Ans
 
 /// The output where the reading ended.
 pub fn output_of(alloc: Global, words: &Words, shape: Shape, end: End) -> Result<Output, NoMemory>
-    requires { shape_in words.now ≡ Some shape }
+    requires shape { shape_in words.now ≡ Some shape }
+    requires fit { EndIsFit end }
     ensures answered { IfOk result (λ o. IsAnswered o.status) }
     ensures ends { IfOk result (λ o. (rows : List Row) × Ends (last_words words.now) end o.status rows × (o.bytes.items ≡ text_of rows)) }
 {

@@ -1,9 +1,10 @@
 use Rattle.std.proofs.Common.{◌∙◌, sym, ap, refl, arith, Ok, Err}
+use Rattle.std.proofs.lemmas.List.{append-nil}
 use Rattle.outside.specs.Shelf.{Gives}
 use Rattle.tomo.specs.Table.{file_words, limit}
 use Rattle.tomo.specs.Machine.{start, kind_of}
-use Rattle.tomo.proofs.Shape.{file_place, file_named, file_count, files_few}
-use Rattle.tomo.proofs.Gathering.{turn_below, reading_first, reading_asks, reading_more, reading_ends, asks_all, asked_more, knows_at, gives_wanted, within_wanted}
+use Rattle.tomo.proofs.Shape.{file_place, file_named, file_count, files_few, start_fit, files_fit}
+use Rattle.tomo.proofs.Gathering.{taken_none, fronts_before, taken_leads, turn_below, reading_first, reading_asks, reading_more, reading_ends, asks_all, asked_more, knows_at, gives_wanted, within_wanted}
 use Rattle.tomo.proofs.gather.gather.Goals as goal
 
 pub loop-content-init : goal.loop-content-init
@@ -14,6 +15,19 @@ loop-content-init g c = record {
   sure = refl;
   later = omega arith;
 }
+
+pub returns-in-Stop-clause-stops : goal.returns-in-Stop-clause-stops
+returns-in-Stop-clause-stops g c =
+    (fronts_before (g.S.Shelf.told c.args.shelf.now) (file_words c.args.words.now) (start c.args.shape) (start c.args.shape) 0 _ _ (taken_none _ _ _ _ refl) (sym (append-nil _))).1
+
+pub returns-in-Stop-clause-leads : goal.returns-in-Stop-clause-leads
+returns-in-Stop-clause-leads g c = taken_leads (g.S.Shelf.told c.args.shelf.now) (file_words c.args.words.now) (start c.args.shape) 0 c.in-Stop.end (taken_none _ _ _ _ (sym c.in-Stop.ensures.first))
+
+pub returns-in-Stop-clause-fit : goal.returns-in-Stop-clause-fit
+returns-in-Stop-clause-fit g c = start_fit c.args.words.now c.args.shape c.in-Stop.end c.requires c.in-Stop.ensures.first
+
+pub returns-in-Ok-Stop-clause-fit : goal.returns-in-Ok-Stop-clause-fit
+returns-in-Ok-Stop-clause-fit g c = files_fit _ c.in-Ok-Stop.end (rw c.in-Ok-Stop.field-0-is at c.in-Ok-Stop.ensures.fewer)
 
 pub overflow_add-turn : goal.overflow_add-turn
 overflow_add-turn g c =

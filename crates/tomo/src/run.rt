@@ -3,9 +3,11 @@ ghost use Rattle.std.specs.Prelude.{◌≡◌, ◌≢◌, ◌++◌, None, IfSome
 ghost use Rattle.outside.specs.Causes.{Rose};
 ghost use Rattle.tomo.specs.Table.{shape, file_words};
 ghost use Rattle.tomo.specs.Status.{IsResult};
+ghost use Rattle.tomo.specs.Headline.{PrintedIsTaken};
 ghost use Rattle.tomo.specs.Run.{AddsFront, StopsAtRefusal, KnowsAll, Wrote};
 
 use crate::gather::gather;
+use crate::laws::a_printed_plan_is_taken;
 use crate::status::Status;
 use crate::table::shape_of;
 use crate::work::output_of;
@@ -31,9 +33,13 @@ pub fn tomo<S: Shelf, K: Sink>(alloc: Global, words: &Words, shelf: &mut S, sink
     ensures write_fault { result ≡ Status.WriteFault → Rose (K.faults sink.old) (K.faults sink.new) }
     ensures sure { IsTrue (S.sure shelf.old) → KnowsAll (S.told shelf.old) (file_words words.now) → result ≢ Status.ReadFault }
 
+    // A good plan that was printed is taken by `solve`, and never refused.
+    ensures taken { PrintedIsTaken }
+
     // What is written is that of a run.
     ensures wrote { Wrote (S.told shelf.old) words.now result (K.sure sink.old) (K.taken sink.old) (K.taken sink.new) }
 {
+    a_printed_plan_is_taken();
     let shape = match shape_of(words) {
         Some(shape) => shape,
         None => return Status::Usage,

@@ -247,14 +247,31 @@ fn rounds_are_solved(rt: HostRuntime) -> Result<(), Fail> {
 }
 
 #[test]
+fn a_triangle_is_drilled(rt: HostRuntime) -> Result<(), Fail> {
+    assert_eq!(rt;
+        run(
+            rt.alloc(),
+            &["drill", "1", "3", "3"],
+            b"",
+            b"drill,1,3,3\nmonitors,3\nbound,3\npaths,3,1330000\ntotal,1330000\n"
+        )?,
+        (Status::Done, true)
+    );
+    Ok(())
+}
+
+#[test]
 fn faults_end_a_run(rt: HostRuntime) -> Result<(), Fail> {
     let alloc = rt.alloc();
-    let shapeless: [&[&str]; 5] = [
+    let shapeless: [&[&str]; 8] = [
         &[],
         &["plan"],
         &["plot", "t"],
         &["plan", "--heading", "t"],
         &["plan", "t", "--header"],
+        &["drill", "01", "3", "3"],
+        &["drill", "1", "3", "4"],
+        &["drill", "--header", "1", "3", "3"],
     ];
     for words in shapeless {
         assert_eq!(rt; run(alloc, words, TWO_LINKS, b"")?, (Status::Usage, true));

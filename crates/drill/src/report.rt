@@ -4,11 +4,33 @@ ghost use Rattle.plan_form.specs.PlanRows.{AddsRows};
 ghost use Rattle.drill.specs.Drill as spec;
 ghost use Rattle.drill.specs.Drill.{number_row};
 
-use crate::run::{Found, Given};
 use itoa::Buffer;
 use rows::Rows;
 use std::alloc::Global;
 use tomo_base::NoMemory;
+
+/// The three numbers of a drill.
+#[derive(Clone, Copy)]
+pub(crate) struct Given {
+    pub(crate) seed: u32,
+    pub(crate) n: u32,
+    pub(crate) l: u32,
+}
+
+/// What a drill finds.
+#[derive(Clone, Copy)]
+pub(crate) struct Found {
+    /// How many monitors the plan has.
+    pub(crate) monitors: u32,
+    /// How many its pockets show to be needed.
+    pub(crate) bound: u32,
+    /// How many paths there are.
+    pub(crate) paths: u32,
+    /// The sum over the paths of the sums along each.
+    pub(crate) along: u128,
+    /// The sum of the solved delays.
+    pub(crate) total: u128,
+}
 
 // Adds a row with a word and numbers in decimal.
 fn add_numbers(rows: &mut Rows, word: &str, numbers: &[u128]) -> Result<(), NoMemory>

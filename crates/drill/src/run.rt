@@ -9,7 +9,7 @@ ghost use Rattle.drill.specs.Drill.{IsDrill};
 use crate::delays::{draw_delays, sums_along, total};
 use crate::draws::Draws;
 use crate::network::network;
-use crate::report::drill_rows;
+use crate::report::{Found, Given, drill_rows};
 use crate::solving::{checked, solved};
 use plan_form::Plan;
 use planner::make_plan;
@@ -17,27 +17,6 @@ use rows::Rows;
 use std::alloc::Global;
 use tomo_base::NoMemory;
 use topology::Topology;
-
-/// The three numbers of a drill.
-#[derive(Clone, Copy)]
-pub(crate) struct Given {
-    pub(crate) seed: u32,
-    pub(crate) n: u32,
-    pub(crate) l: u32,
-}
-
-/// What a drill finds.
-#[derive(Clone, Copy)]
-pub(crate) struct Found {
-    pub(crate) monitors: u32,
-    pub(crate) bound: u32,
-    /// How many paths there are.
-    pub(crate) paths: u32,
-    /// The sum over the paths of the sums along each.
-    pub(crate) along: u128,
-    /// The sum of the solved delays.
-    pub(crate) total: u128,
-}
 
 // What is found of a plan as promised: it is checked, measured with these delays, and solved.
 fn measured(alloc: Global, t: &Topology, p: &Plan, delays: &[u64]) -> Result<Found, NoMemory>

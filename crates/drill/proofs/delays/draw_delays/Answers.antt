@@ -1,4 +1,4 @@
-use Rattle.std.proofs.Common.{◌≡◌, ◌++◌, ◌∷◌, [], refl, sym, ap, ap₂, ◌∙◌, arith}
+use Rattle.std.proofs.Common.{◌≡◌, ℕ, List, ◌++◌, ◌∷◌, [], refl, sym, ap, ap₂, ◌∙◌, arith}
 use Rattle.drill.specs.Draws.{draw, state, draws}
 use Rattle.drill.proofs.Drawing.{draws_more}
 use Rattle.drill.proofs.Growth.{state_more}
@@ -12,7 +12,7 @@ pub loop-preserved : goal.loop-preserved
 loop-preserved c =
     let number : c.from.result ≡ draw 1000000 (state c.args.draws.now c.loop.counter) = c.from.ensures ∙ (c.draw.ensures.gives ∙ ap (draw 1000000) c.loop.invariant.0) in (
       c.draw.ensures.state ∙ state_more c.args.draws.now c.loop.counter c.loop.draws c.loop.invariant.0,
-      c.in_ok-push.ensures.items ∙ (ap₂ (λ xs x. xs ++ x ∷ []) c.loop.invariant.1 number ∙ sym (draws_more c.args.draws.now 1000000 c.loop.counter)),
+      ◌∙◌ {A = List ℕ} c.in_ok-push.ensures.items (ap₂ (λ xs x. xs ++ x ∷ []) c.loop.invariant.1 number ∙ sym (draws_more c.args.draws.now 1000000 c.loop.counter)),
     )
 
 pub returns : goal.returns

@@ -202,12 +202,11 @@ knows_at told (name ∷ names) zero knows below = knows.0
 knows_at told (name ∷ names) (suc turn) knows below = knows_at told names turn knows.1 (omega (arith, below))
 
 -- what a read gives, in the words of what was wanted
-pub gives_wanted : (before told : Option Files) (name : List ℕ) (wants : Wants) (kind : Kind) (most : ℕ) (got : Got) (out content : List ℕ) → before ≡ told → kind ≡ kind_of wants → most ≡ limit kind → content ≡ out
-    → Gives before name most (Ok got) out → Gives told name (limit (kind_of wants)) (Ok got) content
-gives_wanted before told name wants kind most got out content same of_wants of_kind of_out gives =
+pub gives_wanted : (before told : Option Files) (name : List ℕ) (wants : Wants) (kind : Kind) (most : ℕ) (got : Got) (content : List ℕ) → before ≡ told → kind ≡ kind_of wants → most ≡ limit kind
+    → Gives before name most (Ok got) content → Gives told name (limit (kind_of wants)) (Ok got) content
+gives_wanted before told name wants kind most got content same of_wants of_kind gives =
     subst (λ t. Gives t name (limit (kind_of wants)) (Ok got) content) same
-    (subst (λ xs. Gives before name (limit (kind_of wants)) (Ok got) xs) (sym of_out)
-    (subst (λ most. Gives before name most (Ok got) out) (of_kind ∙ ap limit of_wants) gives))
+    (subst (λ most. Gives before name most (Ok got) content) (of_kind ∙ ap limit of_wants) gives)
 
 -- it is within the limit
 within_limit : (told : Option Files) (name : List ℕ) (most : ℕ) (got : Got) (out : List ℕ) → Gives told name most (Ok got) out → length out ≤ most
@@ -215,7 +214,7 @@ within_limit told name most Whole out gives = gives.0
 within_limit told name most TooLong out gives = rw gives.0 (omega arith)
 
 -- what was read whole is within the limit of the file that is wanted
-pub within_wanted : (told : Option Files) (name : List ℕ) (wants : Wants) (kind : Kind) (most : ℕ) (got : Got) (out content : List ℕ) → kind ≡ kind_of wants → most ≡ limit kind → content ≡ out
-    → Gives told name most (Ok got) out → length content ≤ limit (kind_of wants)
-within_wanted told name wants kind most got out content of_wants of_kind of_out gives =
-    within_limit told name (limit (kind_of wants)) got content (gives_wanted told told name wants kind most got out content refl of_wants of_kind of_out gives)
+pub within_wanted : (told : Option Files) (name : List ℕ) (wants : Wants) (kind : Kind) (most : ℕ) (got : Got) (content : List ℕ) → kind ≡ kind_of wants → most ≡ limit kind
+    → Gives told name most (Ok got) content → length content ≤ limit (kind_of wants)
+within_wanted told name wants kind most got content of_wants of_kind gives =
+    within_limit told name (limit (kind_of wants)) got content (gives_wanted told told name wants kind most got content refl of_wants of_kind gives)

@@ -37,7 +37,7 @@ pub fn gather<S: Shelf>(
         let name = words.at(first + turn);
         let mut content = Vec::new(alloc);
         let got = shelf.read(alloc, name, limit_of(wants.kind()), &mut content)?;
-        match feed(alloc, wants, name, got, &content) {
+        match feed(alloc, wants, name, got, content) {
             Ok(Next::Ask(later)) => wants = later,
             Ok(Next::Stop(end)) => return Ok(end),
             Err(_) => return Err(ShelfFault::NoMemory),

@@ -224,15 +224,16 @@ fn take_sums(alloc: Global, checked: Checked, name: &str, rows: &Rows) -> Result
     }
 }
 
-// Takes in a file that is within its limit.
-fn take_in(alloc: Global, wants: Wants, name: &str, content: &[u8]) -> Result<Next, NoMemory>
-    requires { length content.now ≤ limit (kind_of wants) }
-    ensures taken { IfOk result (λ next. Takes wants name.now (rows_of content.now) next) }
+// Takes in a file that is within its limit, and gives its bytes back once its rows are read.
+fn take_in(alloc: Global, wants: Wants, name: &str, content: Vec<u8>) -> Result<Next, NoMemory>
+    requires { length content.items ≤ limit (kind_of wants) }
+    ensures taken { IfOk result (λ next. Takes wants name.now (rows_of content.items) next) }
     ensures fewer { IfOk result (λ next. Fewer (files_left wants) next) }
 {
     fields_are_no_longer_than_their_text();
     rows_are_no_more_than_bytes();
-    let rows = read_rows(alloc, content)?;
+    let rows = read_rows(alloc, &content)?;
+    drop(content);
     match wants {
         Wants::Topology { task, header } => take_topology(alloc, task, header, name, &rows),
         Wants::Monitors { task, topology } => take_monitors(alloc, task, topology, name, &rows),
@@ -247,10 +248,10 @@ pub fn feed(
     wants: Wants,
     name: &str,
     got: Got,
-    content: &[u8],
+    content: Vec<u8>,
 ) -> Result<Next, NoMemory>
-    requires { length content.now ≤ limit (kind_of wants) }
-    ensures steps { IfOk result (λ next. StepsBy wants name.now got content.now next) }
+    requires { length content.items ≤ limit (kind_of wants) }
+    ensures steps { IfOk result (λ next. StepsBy wants name.now got content.items next) }
     ensures fewer { IfOk result (λ next. Fewer (files_left wants) next) }
 {
     match got {

@@ -39,7 +39,7 @@ at-name-requires g c =
     rw c.first-first.ensures (file_place c.args.words.now c.args.shape c.loop-content.turn c.requires (turn_below _ _ _ _ _ _ _ c.loop-content.invariant.reading))
 
 pub feed-requires : goal.feed-requires
-feed-requires g c = within_wanted _ c.at-name.result.now c.loop-content.wants c.kind.result c.limit_of.result c.in_ok-got.got c.read.new.out.items c.deref.result.now c.kind.ensures c.limit_of.ensures c.deref.ensures.value c.in_ok-got.ensures.gives
+feed-requires g c = within_wanted _ c.at-name.result.now c.loop-content.wants c.kind.result c.limit_of.result c.in_ok-got.got c.read.new.out.items c.kind.ensures c.limit_of.ensures c.in_ok-got.ensures.gives
 
 pub returns-in_err-got-clause-asked : goal.returns-in_err-got-clause-asked
 returns-in_err-got-clause-asked g c =
@@ -105,8 +105,8 @@ returns-in-Ok-Stop-clause-leads g c =
     let here = c.loop-content.invariant in
     let below = turn_below _ _ _ _ _ _ _ here.reading in
     let name = file_named c.args.words.now c.args.shape c.first-first.result c.loop-content.turn c.at-name.result.now c.requires below c.first-first.ensures c.at-name.ensures in
-    let gives : Gives (g.S.Shelf.told c.args.shelf.now) c.at-name.result.now (limit (kind_of c.loop-content.wants)) (Ok c.in_ok-got.got) c.deref.result.now =
-    gives_wanted _ _ c.at-name.result.now c.loop-content.wants c.kind.result c.limit_of.result c.in_ok-got.got c.read.new.out.items c.deref.result.now here.told c.kind.ensures c.limit_of.ensures c.deref.ensures.value c.in_ok-got.ensures.gives in
+    let gives : Gives (g.S.Shelf.told c.args.shelf.now) c.at-name.result.now (limit (kind_of c.loop-content.wants)) (Ok c.in_ok-got.got) c.read.new.out.items =
+    gives_wanted _ _ c.at-name.result.now c.loop-content.wants c.kind.result c.limit_of.result c.in_ok-got.got c.read.new.out.items here.told c.kind.ensures c.limit_of.ensures c.in_ok-got.ensures.gives in
     let steps = rw c.in-Ok-Stop.field-0-is at (c.in-Ok-Stop.ensures.steps (g.S.Shelf.told c.args.shelf.now) gives) in
     reading_ends (g.S.Shelf.told c.args.shelf.now) (file_words c.args.words.now) (start c.args.shape) _ _ c.loop-content.turn c.loop-content.wants c.at-name.result.now c.in-Ok-Stop.end here.reading name steps
 
@@ -115,8 +115,8 @@ loop-content-preserved g c =
     let here = c.loop-content.invariant in
     let below = turn_below _ _ _ _ _ _ _ here.reading in
     let name = file_named c.args.words.now c.args.shape c.first-first.result c.loop-content.turn c.at-name.result.now c.requires below c.first-first.ensures c.at-name.ensures in
-    let gives : Gives (g.S.Shelf.told c.args.shelf.now) c.at-name.result.now (limit (kind_of c.loop-content.wants)) (Ok c.in_ok-got.got) c.deref.result.now =
-    gives_wanted _ _ c.at-name.result.now c.loop-content.wants c.kind.result c.limit_of.result c.in_ok-got.got c.read.new.out.items c.deref.result.now here.told c.kind.ensures c.limit_of.ensures c.deref.ensures.value c.in_ok-got.ensures.gives in
+    let gives : Gives (g.S.Shelf.told c.args.shelf.now) c.at-name.result.now (limit (kind_of c.loop-content.wants)) (Ok c.in_ok-got.got) c.read.new.out.items =
+    gives_wanted _ _ c.at-name.result.now c.loop-content.wants c.kind.result c.limit_of.result c.in_ok-got.got c.read.new.out.items here.told c.kind.ensures c.limit_of.ensures c.in_ok-got.ensures.gives in
     let steps = rw c.in-Ok-Ask.field-0-is at (c.in-Ok-Ask.ensures.steps (g.S.Shelf.told c.args.shelf.now) gives) in
     let fewer = rw c.in-Ok-Ask.field-0-is at c.in-Ok-Ask.ensures.fewer in
     record {

@@ -3,21 +3,25 @@ use Rattle.std.proofs.lemmas.Result.{IfOk-weaker}
 use Rattle.tomo_base.specs.Network.{Network}
 use Rattle.drill.specs.Draws.{state}
 use Rattle.drill.specs.Generated.{links_of}
-use Rattle.drill.proofs.Growth.{grown_by, never_none, state_more, drawn_count}
+use Rattle.drill.proofs.Growth.{IsGrown, grown_by, never_none, state_more, drawn_count}
 use Rattle.drill.proofs.network.network.Goals as goal
 
 pub loop-k-init : goal.loop-k-init
 unfolding state links_of
 loop-k-init c = (refl, c.in_ok-network.ensures)
 
+-- the link that was found makes the network grow as it is drawn
+grows : (c : goal.After-network-in-Some-1) → IsGrown c.args.draws.now c.args.n c.loop-k.k c.loop-k.network c.in-Some.link
+grows c = grown_by c.args.draws.now c.args.n c.loop-k.k c.loop-k.draws c.loop-k.network c.next_link.result c.in-Some.link c.requires.some_nodes (omega (arith, c.loop-k-test.true, c.requires.room)) c.loop-k.invariant.0 c.loop-k.invariant.1 c.next_link.ensures.link c.in-Some.is
+
 pub add-requires-clause-lower_first : goal.add-requires-clause-lower_first
-add-requires-clause-lower_first c = (grown_by c.args.draws.now c.args.n c.loop-k.k c.loop-k.draws c.loop-k.network c.next_link.result c.in-Some.link c.requires.some_nodes (omega (arith, c.loop-k-test.true, c.requires.room)) c.loop-k.invariant.0 c.loop-k.invariant.1 c.next_link.ensures.link c.in-Some.is).lower
+add-requires-clause-lower_first c = (grows c).lower
 
 pub add-requires-clause-node : goal.add-requires-clause-node
-add-requires-clause-node c = (grown_by c.args.draws.now c.args.n c.loop-k.k c.loop-k.draws c.loop-k.network c.next_link.result c.in-Some.link c.requires.some_nodes (omega (arith, c.loop-k-test.true, c.requires.room)) c.loop-k.invariant.0 c.loop-k.invariant.1 c.next_link.ensures.link c.in-Some.is).node
+add-requires-clause-node c = (grows c).node
 
 pub add-requires-clause-free : goal.add-requires-clause-free
-add-requires-clause-free c = (grown_by c.args.draws.now c.args.n c.loop-k.k c.loop-k.draws c.loop-k.network c.next_link.result c.in-Some.link c.requires.some_nodes (omega (arith, c.loop-k-test.true, c.requires.room)) c.loop-k.invariant.0 c.loop-k.invariant.1 c.next_link.ensures.link c.in-Some.is).free
+add-requires-clause-free c = (grows c).free
 
 pub unreachable-requires : goal.unreachable-requires
 unreachable-requires c = never_none c.args.draws.now c.args.n c.loop-k.k c.loop-k.draws c.loop-k.network c.next_link.result c.requires.some_nodes (omega (arith, c.loop-k-test.true, c.requires.room)) c.loop-k.invariant.0 c.loop-k.invariant.1 c.next_link.ensures.link c.in-None.is

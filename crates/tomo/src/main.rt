@@ -27,7 +27,7 @@ mod write;
 
 use outside::{FileShelf, StdSink};
 use run::tomo;
-use status::{Status, fault_line};
+use status::{Status, exit_status, fault_line};
 use std::env;
 use std::io::ErrorKind;
 use std::process::ExitCode;
@@ -80,5 +80,5 @@ fn main(rt: HostRuntime) -> ExitCode {
     if !line.is_empty() {
         let _ = eprintln!(rt; "{line}");
     }
-    ExitCode::from(status as u8)
+    ExitCode::from(exit_status(status))
 }

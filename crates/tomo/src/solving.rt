@@ -1,9 +1,8 @@
 // Rounds of sums are solved.
-ghost use Rattle.std.specs.Prelude.{◌≡◌, ◌≤◌, ◌<◌, ◌+◌, ◌^◌, ◌++◌, ◌∷◌, [], List, length, map, decimal, codes, All, IfOk, OnOk, take};
-ghost use Rattle.rows.specs.Rows.{Row};
+ghost use Rattle.std.specs.Prelude.{◌≡◌, ◌≤◌, ◌<◌, ◌+◌, ◌^◌, ◌++◌, ◌∷◌, [], List, length, map, decimal, codes, IfOk, OnOk};
 ghost use Rattle.plan_form.specs.PlanRows.{AddsRows, numbered};
 ghost use Rattle.tomo.specs.Refusals.{only};
-ghost use Rattle.tomo.specs.Rounds.{Outcome, AreOutcomes, why_word, told, round_row, ends_row, refusals, refused_count, count_row, solution_rows, solution_status, Solves};
+ghost use Rattle.tomo.specs.Rounds.{Outcome, AreOutcomes, why_word, told, round_row, ends_row, refusals, refused_count, count_row, solution_status, Solves};
 
 use crate::answer::Answer;
 use crate::checked::Measured;

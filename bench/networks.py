@@ -1,6 +1,6 @@
 #!/usr/bin/env python3
 """Times the built program on networks of several shapes and sizes: one line each, with processor time and
-peak memory (of which some 14 MB are this script's, before the program begins).
+peak memory (at least some 10 MB, which are this script's, before the program begins).
 
     bench/networks.py [PROGRAM]     with PEER=OTHER in the environment, also the ratios to another program that takes the same words
 """

@@ -1,7 +1,6 @@
 -- A good plan has no fault.
 use Rattle.std.proofs.Common.{◌≡◌, ap, ℕ, zero, suc, ◌-◌, ◌<◌, ◌⊎◌, List, [], ◌∷◌, length, slice_get, arith, inl, inr}
-use Rattle.std.specs.List.Sorted.{IsStrictlySortedBy}
-use Rattle.std.specs.declared.cmp.Ordering.TheVariants.{Less}
+use Rattle.std.proofs.lemmas.Map.Keys.{Less-from_sorted}
 use Rattle.tomo_base.specs.Network.{Network}
 use Rattle.tomo_base.specs.Sets.{has}
 use Rattle.simple_path.specs.declared.recipe.Term.{Term}
@@ -23,20 +22,12 @@ pockets_at g pockets i l good =
     let none : PlanPocket = record { need = 0; nodes = [] } in
     record { good = good.each i none l; apart = λ j lt. good.disjoint j i none lt l }
 
--- in lists that are sorted strictly each is less than the next
-sorted_at : (paths : List (List ℕ)) (i : ℕ) → suc i < length paths → IsStrictlySortedBy path_cmp paths → path_cmp (path_at paths i) (path_at paths (suc i)) ≡ Less
-unfolding IsStrictlySortedBy
-sorted_at [] i l up = absurd (omega (arith, l))
-sorted_at (p ∷ []) i l up = absurd (omega (arith, l))
-sorted_at (p ∷ q ∷ ps) zero l up = up.0.0
-sorted_at (p ∷ q ∷ ps) (suc i) l up = sorted_at (q ∷ ps) i (omega (arith, l)) up.1
-
 -- good paths are good at each place
 paths_at : (g : Network) (monitors : List ℕ) (paths : List (List ℕ)) (i : ℕ) → i < length paths → AreGoodPaths g (has monitors) paths → IsGoodPathAt g (has monitors) paths i
 paths_at g monitors paths i l good = record {
   path = good.each i [] l;
   turned = good.turned i [] l;
-  above = λ some. let e : suc (i - 1) ≡ i = omega (arith, some) in rw e at (sorted_at paths (i - 1) (omega (arith, e, l)) good.ascending);
+  above = λ some. Less-from_sorted path_cmp paths (i - 1) i [] good.ascending (omega (arith, some)) l;
 }
 
 -- and good recipes, of which there are as many as links

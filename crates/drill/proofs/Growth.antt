@@ -9,6 +9,7 @@ use Rattle.std.proofs.lemmas.List.Elements.{All-append, All-take, All-drop}
 use Rattle.tomo_base.specs.declared.graph.Link.{Link}
 use Rattle.tomo_base.specs.Network.{Network, joins, any_joins, AreLinks}
 use Rattle.tomo_base.specs.Walks.{Reaches, IsConnected, everything}
+use Rattle.tomo_base.proofs.Entering.{joins_its_ends}
 use Rattle.tomo_base.proofs.Links.{linked_below}
 use Rattle.tomo_base.proofs.Rows.{any_joins-push, AreLinks-push}
 use Rattle.tomo_base.proofs.Searching.{connected_from}
@@ -174,13 +175,10 @@ joined_still seed n k (suc m) a b le e = elim (cases_eq k (suc m)) [
 joined_below : (seed n m k : ℕ) → k + 1 < n → k < m → any_joins (links_of seed n m) (draw (k + 1) (state seed k)) (k + 1) ≡ true
 unfolding any_joins joins
 joined_below seed n m k node lt = joined_still seed n (suc k) m a (k + 1) (omega (arith, lt))
-    (rw (links_more seed n k (pair a (k + 1)) (tree_link n k (state seed k) (links_of seed n k) node), any_joins-push (links_of seed n k) (pair a (k + 1)) a (k + 1)) (or_right (any_joins (links_of seed n k) a (k + 1)) (joins (pair a (k + 1)) a (k + 1)) (itself (pair a (k + 1)))))
+    (rw (links_more seed n k (pair a (k + 1)) (tree_link n k (state seed k) (links_of seed n k) node), any_joins-push (links_of seed n k) (pair a (k + 1)) a (k + 1)) (or_right (any_joins (links_of seed n k) a (k + 1)) (joins (pair a (k + 1)) a (k + 1)) (joins_its_ends (pair a (k + 1)))))
   where
     a : ℕ
     a = draw (k + 1) (state seed k)
-
-    itself : (l : Link) → joins l l.a l.b ≡ true
-    itself l = grind (arith, nat_tests)
 
 -- so a walk leads to each node below k
 reached_below : (seed n m k v : ℕ) → n ≤ m + 1 → k ≤ n → v < k → Reaches (generated seed n m) everything 0 v

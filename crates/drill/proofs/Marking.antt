@@ -5,6 +5,7 @@ use Rattle.std.proofs.lemmas.Bool.Decides.{nat_tests}
 use Rattle.std.proofs.lemmas.List.{get_or-set_same, get_or-set_other, get_or-replicate, length-set, length-replicate}
 use Rattle.tomo_base.specs.declared.graph.Link.{Link}
 use Rattle.tomo_base.specs.Network.{joins, any_joins}
+use Rattle.tomo_base.proofs.Entering.{joins_its_ends}
 use Rattle.tomo_base.proofs.Links.{joins_gives}
 use Rattle.tomo_base.proofs.Rows.{any_joins-push, AreLinks-push}
 use Rattle.drill.specs.Marks.{IsMarked}
@@ -67,9 +68,6 @@ marked_more n links marks l lower high free is = record {
   ];
 }
   where
-    joins_itself : (k : Link) → joins k k.a k.b ≡ true
-    joins_itself k = grind (arith, nat_tests)
-
     forward : (a b : ℕ) → a < b → ((l.a ≡ a) × (l.b ≡ b)) ⊎ ((l.a ≡ b) × (l.b ≡ a)) → (a ≡ l.a) × (b ≡ l.b)
     forward a b lt (inl e) = (sym e.0, sym e.1)
     forward a b lt (inr e) = absurd (omega (arith, lower, lt, e.0, e.1))
@@ -81,4 +79,4 @@ marked_more n links marks l lower high free is = record {
     last p q e = grind arith
 
     absurd_join : (a b : ℕ) → joins l a b ≡ false → (a ≡ l.a) × (b ≡ l.b) → ⊥
-    absurd_join a b e same = both_ways (joins l a b) e (rw (same.0, same.1) (joins_itself l))
+    absurd_join a b e same = both_ways (joins l a b) e (rw (same.0, same.1) (joins_its_ends l))

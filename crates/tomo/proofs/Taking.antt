@@ -1,5 +1,5 @@
 -- What taking in a file leads to, by what was read of it.
-use Rattle.std.proofs.Common.{◌≡◌, ℕ, zero, suc, List, [], ◌∷◌, get_or, slice_get, Some, None, ◌≤◌, length, nat_lt, Result, Ok, Err, inl, inr, subst, arith}
+use Rattle.std.proofs.Common.{◌≡◌, ℕ, List, ◌≤◌, length, nat_lt, Result, Ok, Err, inl, inr, subst, arith}
 use Rattle.std.specs.Prelude.{IfOk}
 use Rattle.std.proofs.lemmas.Bool.{cases_Bool, ltb-true}
 use Rattle.outside.specs.declared.shelf.Got.TheVariants.{Whole}
@@ -10,15 +10,6 @@ use Rattle.tomo.proofs.Gathering.{tells-map}
 use Rattle.tomo_base.specs.declared.memory.NoMemory.{NoMemory}
 use Rattle.tomo.specs.declared.machine.Wants.{Wants}
 use Rattle.tomo.specs.declared.machine.Next.{Next}
-
--- what stands at a place
-pub some_at : (xs : List (List ℕ)) (i : ℕ) (x : List ℕ) → slice_get xs i ≡ Some x → get_or xs i [] ≡ x
-some_at [] i x h = absurd (none h)
-  where
-    none : None ≡ Some x → ⊥
-    none e = cc
-some_at (y ∷ ys) zero x h = cc h
-some_at (y ∷ ys) (suc i) x h = some_at ys i x h
 
 -- a file within its limit does what its rows do
 steps_within : (wants : Wants) (name content : List ℕ) (next : Next) → length content ≤ limit (kind_of wants) → Takes wants name (rows_of content) next → Steps wants name content next

@@ -1,18 +1,12 @@
 -- The recipe of a link in a plan, and its rows.
-use Rattle.std.proofs.Common.{◌≡◌, ℕ, ℤ, pos, zero, suc, ◌+◌, ◌<◌, ◌≤◌, ◌++◌, List, [], ◌∷◌, length, map, take, get_or, Some, None, AllPairs, Result, Ok, Err, IfOk, refl, sym, ap, ◌∙◌, arith}
+use Rattle.std.proofs.Common.{◌≡◌, ℕ, ℤ, pos, zero, suc, ◌+◌, ◌<◌, ◌≤◌, ◌++◌, List, [], ◌∷◌, length, map, take, get_or, Result, Ok, Err, IfOk, refl, sym, ap, ◌∙◌, arith}
 use Rattle.std.specs.Prelude.{codes}
 use Rattle.std.specs.Fmt.{signed_decimal}
-use Rattle.std.proofs.Common.{Ordering}
-use Rattle.std.specs.declared.cmp.Ordering.TheVariants.{Less}
-use Rattle.std.specs.List.Sorted.{IsStrictlySortedBy}
 use Rattle.std.proofs.lemmas.List.{map_more, length-map, get_or-map}
 use Rattle.std.proofs.lemmas.List.Elements.{All-map}
-use Rattle.std.proofs.lemmas.Map.Keys.{sorted_tail}
-use Rattle.std.proofs.lemmas.Map.Views.{All-after_first}
-use Rattle.tomo_base.specs.declared.graph.Link.{Link}
+use Rattle.std.proofs.lemmas.Map.Keys.{Less-from_sorted}
 use Rattle.tomo_base.specs.Network.{Network}
 use Rattle.tomo_base.specs.Sets.{has}
-use Rattle.tomo_base.specs.Table.{JoinsAt}
 use Rattle.tomo_base.specs.Identify.{IsMonitorPath}
 use Rattle.simple_path.specs.declared.recipe.Term.{Term}
 use Rattle.simple_path.specs.Terms.{path_terms}
@@ -25,23 +19,6 @@ use Rattle.planner.specs.Planned.{IsPlanFor}
 use Rattle.planner.proofs.Buildable.{path_terms_each}
 use Rattle.tomo.specs.Refusals.{only}
 use Rattle.tomo.specs.Answers.{term_row, IsLinkRecipe}
-
--- in a sorted list the earlier comes first
-sorted_at : {K : Type 0} (cmp : K → K → Ordering) (xs : List K) → IsStrictlySortedBy cmp xs → AllPairs (λ x y. cmp x y ≡ Less) xs
-sorted_at cmp [] sorted i j d lt l = absurd (omega (arith, l))
-sorted_at cmp (x ∷ xs) sorted zero zero d lt l = absurd (omega (arith, lt))
-sorted_at cmp (x ∷ xs) sorted (suc i) zero d lt l = absurd (omega (arith, lt))
-sorted_at cmp (x ∷ xs) sorted zero (suc j) d lt l = All-after_first cmp x xs sorted j d (omega (arith, l))
-sorted_at cmp (x ∷ xs) sorted (suc i) (suc j) d lt l = sorted_at cmp xs (sorted_tail cmp x xs sorted) i j d (omega (arith, lt)) (omega (arith, l))
-
--- the number of a link is one of the list
-pub joins_within : (links : List Link) (i a b : ℕ) → JoinsAt links i a b → i < length links
-joins_within [] i a b at = absurd (none at.1)
-  where
-    none : {l : Link} → None ≡ Some l → ⊥
-    none e = cc
-joins_within (l ∷ ls) zero a b at = omega arith
-joins_within (l ∷ ls) (suc i) a b at = let rest : i < length ls = joins_within ls i a b at in omega (arith, rest)
 
 -- a term with its path
 abbrev pub with_path : List (List ℕ) → Term → ℤ × List ℕ
@@ -64,7 +41,7 @@ link_recipe given g m p i planned l =
           let in_b : b < length ts = omega (arith, within, length-map ts (with_path p.paths)) in
           let in_a : a < length ts = omega (arith, lt, in_b) in
           rw (get_or-map (with_path p.paths) ts a d e in_a, get_or-map (with_path p.paths) ts b d e in_b)
-          (sorted_at path_cmp p.paths paths.ascending (get_or ts a d).path (get_or ts b d).path [] (one.ascending a b d lt in_b) (one.names b d in_b)));
+          (Less-from_sorted path_cmp p.paths (get_or ts a d).path (get_or ts b d).path [] paths.ascending (one.ascending a b d lt in_b) (one.names b d in_b)));
       recipe = one.recipe;
     }
 

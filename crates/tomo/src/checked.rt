@@ -2,6 +2,8 @@
 ghost use Rattle.std.specs.Prelude.{◌≡◌, ◌≤◌, length, All};
 ghost use Rattle.plan_form.specs.Good.{IsGoodPlan};
 ghost use Rattle.tomo.specs.OneProof.{good_plan_prop};
+ghost use Rattle.tomo.specs.Table.{limit};
+ghost use Rattle.tomo.specs.declared.table.Kind.TheVariants.{RoundFile};
 
 use plan_form::Plan;
 use round_reader::Rounds;
@@ -21,5 +23,5 @@ pub struct Measured {
     pub checked: Checked,
     pub rounds: Rounds,
     ghost widths: { All (λ sums. length sums ≡ length checked.plan.paths) rounds },
-    ghost few: { length rounds ≤ 16777216 },
+    ghost few: { length rounds ≤ limit RoundFile },
 }

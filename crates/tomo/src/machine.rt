@@ -5,6 +5,7 @@ ghost use Rattle.tomo.specs.Table.{files_of, limit};
 ghost use Rattle.tomo.specs.Machine.{files_left, kind_of, start, with_topology as then_topology, TakesTopology, with_monitors as then_monitors, TakesMonitors, TakesGood, GoesOn, TakesPlan, TakesSums, Takes, StepsBy, Fewer, StartsWith};
 ghost use Rattle.tomo.specs.declared.machine.Wants.TheVariants.{APlan};
 ghost use Rattle.tomo.specs.declared.table.Command.TheVariants.{OnTopology};
+ghost use Rattle.tomo.specs.declared.table.Kind.TheVariants.{RoundFile};
 
 use crate::checked::{Checked, Measured};
 use crate::numbers::DrillNumbers;
@@ -214,7 +215,7 @@ fn take_plan(
 
 // Takes in rounds of sums along the paths of a plan.
 fn take_sums(alloc: Global, checked: Checked, name: &str, rows: &Rows) -> Result<Next, NoMemory>
-    requires { length rows.now.closed ≤ 16777216 }
+    requires { length rows.now.closed ≤ limit RoundFile }
     ensures taken { IfOk result (λ next. TakesSums checked name.now rows.now.closed next) }
     ensures fewer { IfOk result (λ next. Fewer 1 next) }
 {

@@ -1,8 +1,8 @@
-use Rattle.std.proofs.Common.{◌≡◌, ◌≤◌, length, slice_index_or, sym, ◌∙◌}
+use Rattle.std.proofs.Common.{◌≡◌, ◌≤◌, [], length, slice_index_or, sym, ◌∙◌}
 use Rattle.tomo_base.specs.NodeLists.{node_limit}
 use Rattle.tomo_base.proofs.Ascending.{length-node_set}
 use Rattle.tomo.proofs.Naming.{named_more, named_few}
-use Rattle.tomo.proofs.Taking.{some_at}
+use Rattle.std.proofs.lemmas.Option.{get_or_from_slice_get}
 use Rattle.tomo.proofs.judging.bad_row.Goals as goal
 
 pub field-requires-in-loop-v : goal.field-requires-in-loop-v
@@ -15,4 +15,4 @@ field-requires-in-loop-v c =
 pub loop-v-preserved : goal.loop-v-preserved
 loop-v-preserved c =
     named_more c.args.topology.now.names c.as_slice-v-items.result.now c.loop-v.v-index c.loop-v.rows c.field-in-loop-v.new.self c.as_bytes.result.now c.loop-v-test.true
-    (c.as_bytes.ensures.value ∙ sym (some_at c.args.topology.now.names (slice_index_or c.as_slice-v-items.result.now c.loop-v.v-index 0) _ c.name.ensures.name)) c.loop-v.invariant c.in_ok-field-2.ensures.ok
+    (c.as_bytes.ensures.value ∙ sym (get_or_from_slice_get c.args.topology.now.names (slice_index_or c.as_slice-v-items.result.now c.loop-v.v-index 0) _ [] c.name.ensures.name)) c.loop-v.invariant c.in_ok-field-2.ensures.ok

@@ -3,7 +3,7 @@ pub mod Shape
 pub mod Gathering
 pub mod Ending
 pub mod Taking
-pub mod Naming
+pub mod NodeNames
 pub mod TermRows
 pub mod Solved
 pub mod Numerals

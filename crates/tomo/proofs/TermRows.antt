@@ -1,7 +1,5 @@
 -- The recipe of a link in a plan, and its rows.
 use Rattle.std.proofs.Common.{◌≡◌, ℕ, ℤ, pos, zero, suc, ◌+◌, ◌<◌, ◌≤◌, ◌++◌, List, [], ◌∷◌, length, map, take, get_or, Result, Ok, Err, IfOk, refl, sym, ap, ◌∙◌, arith}
-use Rattle.std.specs.Prelude.{codes}
-use Rattle.std.specs.Fmt.{signed_decimal}
 use Rattle.std.proofs.lemmas.List.{map_more, length-map, get_or-map}
 use Rattle.std.proofs.lemmas.List.Elements.{All-map}
 use Rattle.std.proofs.lemmas.Map.Keys.{Less-from_sorted}
@@ -11,7 +9,7 @@ use Rattle.tomo_base.specs.Identify.{IsMonitorPath}
 use Rattle.simple_path.specs.declared.recipe.Term.{Term}
 use Rattle.simple_path.specs.Terms.{path_terms}
 use Rattle.simple_path.specs.Pools.{nodes_in}
-use Rattle.rows.specs.Rows.{Row, RowList}
+use Rattle.rows.specs.Rows.{RowList}
 use Rattle.plan_form.specs.Parts.{PlanParts}
 use Rattle.plan_form.specs.Order.{path_cmp}
 use Rattle.plan_form.specs.Good.{EndsAscend}
@@ -67,16 +65,6 @@ pub path_within : (pool : List (List ℕ)) (i : ℕ) → length (get_or pool i [
 path_within [] i = omega arith
 path_within (p ∷ ps) zero = omega arith
 path_within (p ∷ ps) (suc i) = omega (arith, path_within ps i)
-
--- the row of a term as far as its path's first i names
-abbrev pub begun_row : List Row → List (List ℕ) → ℤ → List ℕ → ℕ → RowList
-begun_row closed names coef path i = record { closed = closed; current = codes "term" ∷ signed_decimal coef ∷ map (λ v. get_or names v []) (take i path) }
-
--- one name more
-pub begun_more : (closed : List Row) (names : List (List ℕ)) (coef : ℤ) (path : List ℕ) (i : ℕ) (old new : RowList) (name : List ℕ) → i < length path → name ≡ get_or names (get_or path i 0) []
-    → old ≡ begun_row closed names coef path i → new ≡ record old { current = old.current ++ name ∷ [] } → new ≡ begun_row closed names coef path (i + 1)
-begun_more closed names coef path i old new name l is before more =
-    more ∙ rw before (ap (λ fields. record { closed = closed; current = codes "term" ∷ signed_decimal coef ∷ fields }) (ap (λ x. map (λ v. get_or names v []) (take i path) ++ x ∷ []) is ∙ sym (map_more (λ v. get_or names v []) path i 0 l)))
 
 -- what holds of an answer, by what held of it before
 pub ok_map : {A E : Type 0} (r : Result A E) (P Q : A → Type 0) → ((a : A) → P a → Q a) → IfOk r P → IfOk r Q

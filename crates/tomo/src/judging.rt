@@ -6,6 +6,7 @@ ghost use Rattle.tomo.specs.Refusals.{only};
 ghost use Rattle.tomo.specs.Answers.{yes_row as one_yes, bad_row as one_bad, Judges, TellsBad};
 
 use crate::answer::Answer;
+use crate::naming::add_names;
 use crate::placed::Placed;
 use crate::status::Status;
 use itoa::Buffer;
@@ -34,9 +35,7 @@ fn bad_row(alloc: Global, topology: &Topology, nodes: &NodeSet) -> Result<Rows, 
 {
     let mut rows = Rows::new(alloc);
     rows.field(b"bad")?;
-    for &v in nodes.as_slice() {
-        rows.field(topology.name(v).as_bytes())?;
-    }
+    add_names(&mut rows, topology, nodes.as_slice())?;
     rows.close()?;
     Ok(rows)
 }

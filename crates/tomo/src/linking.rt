@@ -7,6 +7,7 @@ ghost use Rattle.tomo.specs.Answers.{term_row, RefusesWord, TellsRecipe, TellsLi
 
 use crate::answer::Answer;
 use crate::judging::tell_bad;
+use crate::naming::add_names;
 use crate::placed::Placed;
 use crate::refusal::refuse;
 use crate::status::Status;
@@ -31,9 +32,7 @@ fn add_term(rows: &mut Rows, topology: &Topology, term: Term, path: &[u32]) -> R
     let mut digits = Buffer::new();
     rows.field(b"term")?;
     rows.field(digits.format(term.coef).as_bytes())?;
-    for &v in path {
-        rows.field(topology.name(v).as_bytes())?;
-    }
+    add_names(rows, topology, path)?;
     rows.close()
 }
 

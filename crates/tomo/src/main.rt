@@ -11,6 +11,7 @@ mod judging;
 mod laws;
 mod linking;
 mod machine;
+mod naming;
 mod numbers;
 mod placed;
 mod planning;

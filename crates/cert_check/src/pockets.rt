@@ -1,9 +1,8 @@
 // The pockets of a plan.
-ghost use Rattle.std.specs.Prelude.{◌≡◌, ◌<◌, ◌≤◌, ◌||◌, ◌↔◌, ℕ, length, All, IfOk, IfSome, IfNone, IsTrue, false};
+ghost use Rattle.std.specs.Prelude.{◌≡◌, ◌<◌, ◌||◌, ◌↔◌, ℕ, length, All, IfOk, IfSome, IfNone, IsTrue, false};
 ghost use Rattle.std.specs.List.Sorted.{IsStrictlyIncreasing};
 ghost use Rattle.tomo_base.specs.NodeLists.{node_limit};
-ghost use Rattle.tomo_base.specs.Sets.{has, Avoids};
-ghost use Rattle.plan_form.specs.Parts.{PlanPocket};
+ghost use Rattle.tomo_base.specs.Sets.{has};
 ghost use Rattle.plan_form.specs.Good.{IsGoodPocket};
 ghost use Rattle.cert_check.specs.Faults.{IsFirstBad, AllPlaces, IsGoodPocketAt};
 

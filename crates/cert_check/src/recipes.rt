@@ -1,5 +1,5 @@
 // The recipes of a plan.
-ghost use Rattle.std.specs.Prelude.{◌≡◌, ◌<◌, ◌≤◌, ◌↔◌, ◌⊎◌, [], ℕ, length, All, AllPairs, IfOk, OnOk, IfSome, IfNone, IsTrue};
+ghost use Rattle.std.specs.Prelude.{◌≡◌, ◌<◌, ◌↔◌, ◌⊎◌, [], ℕ, length, All, AllPairs, IfOk, OnOk, IfSome, IfNone, IsTrue};
 ghost use Rattle.tomo_base.specs.Walks.{IsWalk};
 ghost use Rattle.simple_path.specs.Terms.{path_terms};
 ghost use Rattle.plan_form.specs.Parts.{IsTermList};

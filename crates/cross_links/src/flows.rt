@@ -1,5 +1,5 @@
 // Flows from the ends of a link to monitors.
-ghost use Rattle.std.specs.Prelude.{◌≡◌, ◌<◌, ◌≤◌, [], ◌∷◌, length, map, All, IfOk, IsTrue, false};
+ghost use Rattle.std.specs.Prelude.{◌≡◌, ◌<◌, [], ◌∷◌, length, map, All, IfOk, IsTrue, false};
 ghost use Rattle.tomo_base.specs.Network.{linked, IsGraph};
 ghost use Rattle.tomo_base.specs.Sets.{has};
 ghost use Rattle.tomo_base.specs.BadParts.{NoBadPart};

@@ -1,5 +1,5 @@
 // Ways and the nodes at which they meet.
-ghost use Rattle.std.specs.Prelude.{◌≡◌, ◌<◌, ◌≤◌, ℕ, [], length, All, IfOk, IsTrue, slice_index_or};
+ghost use Rattle.std.specs.Prelude.{◌≡◌, ◌<◌, ◌≤◌, ℕ, [], length, All, IfOk, IsTrue, false, slice_index_or};
 ghost use Rattle.std.specs.List.{list_any};
 ghost use Rattle.tomo_base.specs.Sets.{has};
 ghost use Rattle.tomo_base.specs.NodeLists.{node_limit};
@@ -36,6 +36,7 @@ pub fn path_with(paths: &PathPool, node: u32) -> u32
     requires { IsTrue (list_any (λ p. has p node) paths.now) }
     ensures inside { result < length paths.now }
     ensures holds { IsTrue (has (slice_index_or paths.now result []) node) }
+    ensures first { (k : ℕ) → k < result → has (slice_index_or paths.now k []) node ≡ false }
 {
     for i in 0..paths.len() {
         if paths.path(i).contains(&node) {

@@ -1,5 +1,5 @@
 // All pairs of nodes.
-ghost use Rattle.std.specs.Prelude.{◌≡◌, ◌<◌, ◌≤◌, ◌++◌, IfOk, OnOk};
+ghost use Rattle.std.specs.Prelude.{◌≡◌, ◌<◌, ◌++◌, IfOk, OnOk};
 ghost use Rattle.drill.specs.Generated as spec;
 ghost use Rattle.drill.specs.Generated.{pairs_of};
 

@@ -1,7 +1,6 @@
 // The delays of all links, from the sums along the paths of a plan.
 ghost use Rattle.std.specs.Prelude.{◌≡◌, ◌≤◌, ◌<◌, ◌^◌, ◌+◌, ◌-◌, ◌*◌, ◌/◌, ℕ, [], Some, None, length, All, OnOk, IfOk, IfErr, IfSome, IfNone, slice_index_or};
 ghost use Rattle.tomo_base.specs.Sets.{has};
-ghost use Rattle.tomo_base.specs.Identify.{delay_limit};
 ghost use Rattle.tomo_base.specs.Recipes.{gain_of, loss_of};
 ghost use Rattle.plan_form.specs.Good.{AreGoodPaths, AreGoodRecipes};
 ghost use Rattle.link_solver.specs.Verdict as spec;

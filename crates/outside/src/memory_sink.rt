@@ -25,7 +25,7 @@ pub struct MemSink {
 }
 
 impl Model for MemSink {
-    ghost use Rattle.std.specs.Prelude.{ℕ, ◌-◌, ◌≤◌, ◌<◌, ◌^◌, take, vec_len};
+    ghost use Rattle.std.specs.Prelude.{◌-◌, ◌≤◌, ◌<◌, take, vec_len};
     ghost use Rattle.outside.specs.Memory.{MemoryBytes};
 
     ghost Value = { MemoryBytes };

@@ -8,7 +8,6 @@ pub mod Built
 pub mod Formed
 pub mod Copying
 pub mod Records
-pub mod Decimals
 pub mod Cutting
 pub mod Joined
 pub mod Texts

@@ -1,7 +1,6 @@
 -- Texts as spellings of values.
-use Rattle.std.specs.Prelude.{ℕ, ◌≡◌, ◌<◌, ◌≤◌, List, [], ◌∷◌, length, Option, Some, None, Bool, true, false, nat_eq, ℤ, pos, negsuc, cond, codes, bytes_eq}
+use Rattle.std.specs.Prelude.{ℕ, ◌≡◌, List, [], ◌∷◌, Option, Some, None, Bool, true, false, nat_eq, ℤ, pos, negsuc, cond, codes, bytes_eq}
 use Rattle.std.specs.List.{slice_split}
-use Rattle.std.specs.Str.Parse.{AllDigits, digits_value}
 
 -- the text is the spelling of the fitting value x, or of none
 abbrev pub Spells : {A : Type 0} → (A → Type 0) → (A → List ℕ) → List ℕ → Option A → Type 0
@@ -12,17 +11,6 @@ Spells {A} Fits spelling text None = (x : A) → Fits x → text ≡ spelling x 
 abbrev pub SpellsIn : {A : Type 0} → (A → Type 0) → (A → List ℕ) → List ℕ → A → Bool → Type 0
 SpellsIn Fits spelling text x true = Spells Fits spelling text (Some x)
 SpellsIn Fits spelling text x false = Spells Fits spelling text None
-
--- one to 19 digits
-pub record IsDigits (text : List ℕ) : Type 0 where
-  pub some : 0 < length text
-  pub few : length text ≤ 19
-  pub digits : AllDigits 10 text
-
--- what the digits say, or that the text is none
-abbrev pub DigitsOf : List ℕ → Option ℕ → Type 0
-DigitsOf text (Some n) = IsDigits text × (n ≡ digits_value 10 text)
-DigitsOf text None = IsDigits text → ⊥
 
 -- the coefficients, each with its spelling
 abbrev pub coefficients : List (List ℕ × ℤ)

@@ -1,5 +1,5 @@
 // Lists of numbers and of terms as they are spelled in a plan.
-ghost use Rattle.std.specs.Prelude.{◌≡◌, ◌<◌, ◌∷◌, [], length, decimal, IfSome, IfNone, OnOk, IfOk};
+ghost use Rattle.std.specs.Prelude.{◌≡◌, ◌<◌, ◌∷◌, [], length, IfSome, IfNone, IfOk};
 ghost use Rattle.plan_form.specs.Spelling.{numbers_text, term_text, terms_text};
 ghost use Rattle.plan_form.specs.Parts.{IsNodeList, IsTermList, IsTerm};
 ghost use Rattle.plan_form.specs.Values.{Spells, SpellsIn, coefficients, listed, parts};

@@ -1,5 +1,5 @@
 // Plans are read and printed where memory is ample.
-ghost use Rattle.std.specs.Prelude.{◌≡◌, ◌<◌, ◌^◌, length, IfOk};
+ghost use Rattle.std.specs.Prelude.{◌<◌, ◌^◌, length, IfOk};
 ghost use Rattle.rows.specs.Rows.{byte_count};
 
 use crate::{PlanFault, plan_rows, read_plan};

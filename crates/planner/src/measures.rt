@@ -1,5 +1,5 @@
 // Paths and recipes for the links of a topology, with given monitors.
-ghost use Rattle.std.specs.Prelude.{◌≡◌, ◌<◌, ◌≤◌, length, All, IfOk};
+ghost use Rattle.std.specs.Prelude.{◌<◌, length, All, IfOk};
 ghost use Rattle.tomo_base.specs.Sets.{has};
 ghost use Rattle.tomo_base.specs.Identify.{Identifies};
 ghost use Rattle.topology.specs.Topology.{IsTopology};

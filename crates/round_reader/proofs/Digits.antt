@@ -1,11 +1,10 @@
 -- When a field is a sum, by what std reads of its text.
-use Rattle.std.proofs.Common.{◌≡◌, ℕ, ◌^◌, ◌<◌, ◌≤◌, List, length, get_or, subst, arith, Result, Ok, Err, IsUtf8, Bor, inl, inr}
+use Rattle.std.proofs.Common.{◌≡◌, ℕ, ◌^◌, ◌<◌, ◌≤◌, List, length, get_or, subst, arith, Result, Ok, Err, IsUtf8, Bor}
 use Rattle.std.specs.Result.{OkIff, MatchResult}
 use Rattle.std.specs.Str.Parse.{AllDigits, digits_value, ParsesUnsigned}
+use Rattle.std.proofs.lemmas.Fmt.{IsAscii-from_digits}
 use Rattle.std.proofs.lemmas.Str.{IsUtf8-from_ascii}
 use Rattle.std.proofs.lemmas.Str.Parse.{IsNumeralModel, digit_at, numerals_by_value, tells_digits, parse_plain}
-use Rattle.std.proofs.lemmas.Bool.{cases_lt}
-use Rattle.std.proofs.lemmas.List.{get_or_past}
 use Rattle.rows.specs.Blanks.{trimmed}
 use Rattle.round_reader.specs.Sums.{IsSum}
 
@@ -17,16 +16,9 @@ plain = numerals_by_value (AllDigits 10) tells_digits
 pub no_signed_sum : (field : List ℕ) (v : ℕ) → get_or (trimmed field) 0 0 ≡ 43 → IsSum field v → ⊥
 no_signed_sum field v plus is = let first = digit_at (trimmed field) 0 is.digits is.some in omega (arith, first, plus)
 
--- digits are a text
-digits_text : (bs : List ℕ) → AllDigits 10 bs → IsUtf8 bs
-digits_text bs all = IsUtf8-from_ascii bs (λ i. elim (cases_lt i (length bs)) [
-  | inl l ↦ let here = digit_at bs i all l in omega (arith, here)
-  | inr past ↦ let none : get_or bs i 0 ≡ 0 = get_or_past bs i 0 past in omega (arith, none)
-])
-
--- so what is no text is no sum
+-- digits are a text, so what is no text is no sum
 pub no_text_no_sum : (field : List ℕ) → ¬ (IsUtf8 (trimmed field)) → (v : ℕ) → IsSum field v → ⊥
-no_text_no_sum field none v is = none (digits_text (trimmed field) is.digits)
+no_text_no_sum field none v is = none (IsUtf8-from_ascii (trimmed field) (IsAscii-from_digits (trimmed field) is.digits))
 
 -- where a text cannot be made of the bytes
 pub no_sum_where_err : {E : Type 0} (field bytes : List ℕ) (P : E → Type 0) (r : Result (Bor (List ℕ)) E) (x : E) → bytes ≡ trimmed field → r ≡ Err x → MatchResult r (λ s. (s.now ≡ bytes) × IsUtf8 bytes) (λ e. ¬ (IsUtf8 bytes) × P e)

@@ -1,5 +1,5 @@
 // Whether a list of nodes is a monitor path.
-ghost use Rattle.std.specs.Prelude.{◌↔◌, ◌≤◌, ℕ, IsTrue, length, ◌≡◌};
+ghost use Rattle.std.specs.Prelude.{◌↔◌, IsTrue, ◌≡◌};
 ghost use Rattle.tomo_base.specs.Network.{linked};
 ghost use Rattle.tomo_base.specs.Sets.{has};
 ghost use Rattle.tomo_base.specs.Walks.{IsWalk, EndsIn, NoneTwice};

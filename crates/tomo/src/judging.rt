@@ -1,5 +1,5 @@
 // Monitors are judged.
-ghost use Rattle.std.specs.Prelude.{◌≡◌, ◌<◌, ◌∷◌, [], length, All, IfOk};
+ghost use Rattle.std.specs.Prelude.{◌≡◌, ◌<◌, ◌∷◌, [], All, IfOk};
 ghost use Rattle.tomo_base.specs.Sets.{has};
 ghost use Rattle.judge.specs.Verdict.{IsFoundBad};
 ghost use Rattle.tomo.specs.Refusals.{only};

@@ -1,6 +1,5 @@
 // The recipe of one link.
-ghost use Rattle.std.specs.Prelude.{◌≡◌, ◌<◌, ◌≤◌, ◌+◌, ◌^◌, ◌++◌, ◌∷◌, [], length, map, All, IfOk, OnOk, slice_index_or};
-ghost use Rattle.tomo_base.specs.Sets.{has};
+ghost use Rattle.std.specs.Prelude.{◌≡◌, ◌<◌, ◌+◌, ◌^◌, ◌++◌, ◌∷◌, [], length, map, All, IfOk, OnOk, slice_index_or};
 ghost use Rattle.simple_path.specs.Terms.{path_terms};
 ghost use Rattle.tomo.specs.Refusals.{only};
 ghost use Rattle.tomo.specs.Answers.{term_row, RefusesWord, TellsRecipe, TellsLink};

@@ -1,7 +1,7 @@
 // Plans are checked, and what is found is reported.
 ghost use Rattle.std.specs.Prelude.{◌≡◌, ◌∷◌, [], IfOk, codes, decimal};
 ghost use Rattle.tomo.specs.Refusals.{only, fault_part, fault_number};
-ghost use Rattle.tomo.specs.Answers.{report_row, report_status, Reports};
+ghost use Rattle.tomo.specs.Answers.{Reports};
 
 use crate::answer::Answer;
 use crate::machine::Planned;

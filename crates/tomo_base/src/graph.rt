@@ -1,5 +1,5 @@
 // Graphs, as a list of links with the neighbours of each node.
-ghost use Rattle.std.specs.Prelude.{◌≡◌, ◌≤◌, ◌<◌, ℕ, length, map, IfOk, IfErr, IfSome, IfNone, false};
+ghost use Rattle.std.specs.Prelude.{◌≡◌, ◌≤◌, ◌<◌, length, map, IfOk, IfErr, IfSome, IfNone, false};
 ghost use Rattle.tomo_base.specs.Network.{Network, linked, IsGraph};
 ghost use Rattle.tomo_base.specs.Table.{in_order, JoinsAt, AreHops, IsTable, IsFirstFault};
 

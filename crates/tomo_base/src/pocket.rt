@@ -22,7 +22,7 @@ pub struct Pockets {
 }
 
 impl Model for Pockets {
-    ghost use Rattle.std.specs.Prelude.{ℕ, List, ◌<◌, ◌^◌, vec_len};
+    ghost use Rattle.std.specs.Prelude.{List, ◌<◌, ◌^◌, vec_len};
     ghost use Rattle.tomo_base.specs.declared.pocket.Pocket.{Pocket};
 
     ghost Value = { List Pocket };

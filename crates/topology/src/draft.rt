@@ -1,5 +1,5 @@
 // What the rows so far name, while rows are read one by one.
-ghost use Rattle.std.specs.Prelude.{◌≡◌, ◌+◌, ◌^◌, ◌<◌, ◌≤◌, [], length, IfOk, IfErr, OnOk};
+ghost use Rattle.std.specs.Prelude.{◌+◌, ◌^◌, ◌<◌, ◌≤◌, [], length, IfOk, IfErr, OnOk};
 ghost use Rattle.topology.specs.Draft.{IsDraftOf, LinksNames, HasOwnFault, TakesRow, RefusesRow, IsOfRow};
 ghost use Rattle.topology.specs.Faults.{AllFine, IsTopoFault, examined};
 ghost use Rattle.topology.specs.Names.{row_at};

@@ -1,5 +1,5 @@
 // Links, numbered by first appearance.
-ghost use Rattle.std.specs.Prelude.{◌≡◌, ◌+◌, ◌^◌, ◌<◌, [], length, IfOk, OnOk, OnErr};
+ghost use Rattle.std.specs.Prelude.{◌≡◌, ◌<◌, [], length, IfOk, OnOk, OnErr};
 ghost use Rattle.indexmap.specs.IndexSet.{insert_key};
 ghost use Rattle.tomo_base.specs.Table.{in_order};
 ghost use Rattle.topology.specs.Topology.{link_between, same_link};
@@ -16,7 +16,7 @@ pub(crate) struct Links {
 }
 
 impl Model for Links {
-    ghost use Rattle.std.specs.Prelude.{List, ◌<◌, ◌^◌, length, map};
+    ghost use Rattle.std.specs.Prelude.{List, ◌<◌, length, map};
     ghost use Rattle.tomo_base.specs.declared.graph.Link.{Link};
     ghost use Rattle.topology.specs.Topology.{link_between};
 

@@ -1,5 +1,5 @@
 // Paths in the order of their second nodes.
-ghost use Rattle.std.specs.Prelude.{◌≡◌, ◌<◌, ◌≤◌, ◌^◌, ℕ, length, map, All, IfOk};
+ghost use Rattle.std.specs.Prelude.{◌≡◌, ◌<◌, ◌≤◌, ◌^◌, length, map, All, IfOk};
 ghost use Rattle.tomo_base.specs.Walks.{NoneTwice};
 ghost use Rattle.simple_path.specs.Pools.{nodes_in};
 ghost use Rattle.unit_flow.specs.Flows.{second_of};

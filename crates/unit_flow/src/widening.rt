@@ -1,6 +1,6 @@
 // One widening of a flow: the array of its paths, the search, the walk over what was found, and the new paths.
 
-ghost use Rattle.std.specs.Prelude.{◌≡◌, ◌<◌, ◌≤◌, ℕ, None, List, [], ◌∷◌, length, All, map, IfOk};
+ghost use Rattle.std.specs.Prelude.{◌≡◌, ◌<◌, ◌≤◌, ℕ, None, ◌∷◌, length, All, map, IfOk};
 ghost use Rattle.unit_flow.specs.Flows.{IsFlow, last_of};
 ghost use Rattle.unit_flow.specs.Arrays.{load_all};
 ghost use Rattle.unit_flow.specs.Steps.{entry_of};

@@ -1,5 +1,5 @@
 -- The network that is drawn from a seed, and the delays of its links.
-use Rattle.std.specs.Prelude.{ℕ, zero, suc, ◌+◌, ◌-◌, ◌*◌, ◌/◌, ◌<◌, Bool, not, nat_lt, if◌then◌else◌, List, [], ◌∷◌, ◌++◌, take, drop, find, Option, Some}
+use Rattle.std.specs.Prelude.{ℕ, zero, suc, ◌+◌, ◌-◌, ◌*◌, ◌/◌, ◌<◌, ◌≤◌, ◌^◌, Bool, not, nat_lt, if◌then◌else◌, List, [], ◌∷◌, ◌++◌, take, drop, find, Option, Some}
 use Rattle.std.specs.List.{cons_option}
 use Rattle.tomo_base.specs.declared.graph.Link.{Link}
 use Rattle.tomo_base.specs.Network.{Network, any_joins}
@@ -47,6 +47,10 @@ next_link n k x links = if nat_lt (k + 1) n then Some (pair (draw (k + 1) x) (k 
 unfoldable pub links_of : ℕ → ℕ → ℕ → List Link
 links_of seed n zero = []
 links_of seed n (suc k) = links_of seed n k ++ cons_option (next_link n k (state seed k) (links_of seed n k)) []
+
+-- a connected network of n nodes and l links can be drawn from the seed, within the limits of a topology
+abbrev pub CanDraw : ℕ → ℕ → ℕ → Type 0
+CanDraw seed n l = (seed < 2 ^ 31) × (3 ≤ n) × (n ≤ 1000) × (n ≤ l + 1) × (l ≤ 4000) × (l ≤ pair_count n)
 
 -- the network of n nodes and l links that is drawn from a seed
 abbrev pub generated : ℕ → ℕ → ℕ → Network

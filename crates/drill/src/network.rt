@@ -1,9 +1,9 @@
 // The network that is drawn from a seed.
-ghost use Rattle.std.specs.Prelude.{◌≡◌, ◌<◌, ◌≤◌, ◌+◌, ◌^◌, length, IfOk, OnOk};
+ghost use Rattle.std.specs.Prelude.{◌≡◌, ◌<◌, ◌≤◌, ◌+◌, length, IfOk, OnOk};
 ghost use Rattle.tomo_base.specs.Walks.{IsConnected};
 ghost use Rattle.drill.specs.Draws.{state};
 ghost use Rattle.drill.specs.Generated as spec;
-ghost use Rattle.drill.specs.Generated.{generated, pair_count};
+ghost use Rattle.drill.specs.Generated.{generated, pair_count, CanDraw};
 
 use crate::draws::Draws;
 use crate::growing::Growing;
@@ -55,12 +55,7 @@ pub(crate) fn network(alloc: Global, draws: &mut Draws, n: u32, l: u32) -> Resul
 /// node below it, and then links between free pairs of nodes, each the first from a drawn place on in the lexicographic order. The error
 /// comes for want of memory alone.
 pub fn generate(alloc: Global, seed: u32, n: u32, l: u32) -> Result<Graph, NoMemory>
-    requires seed { seed < 2 ^ 31 }
-    requires some_nodes { 3 ≤ n }
-    requires few_nodes { n ≤ 1000 }
-    requires joined { n ≤ l + 1 }
-    requires few_links { l ≤ 4000 }
-    requires room { l ≤ pair_count n }
+    requires { CanDraw seed n l }
     ensures graph { IfOk result (λ g. g ≡ generated seed n l) }
     ensures count { IfOk result (λ g. length g.links ≡ l) }
     ensures connected { IfOk result IsConnected }

@@ -1,8 +1,8 @@
 // A whole drill.
-ghost use Rattle.std.specs.Prelude.{◌≡◌, ◌<◌, ◌≤◌, ◌+◌, ◌^◌, length, sum, IfOk};
+ghost use Rattle.std.specs.Prelude.{◌≡◌, ◌<◌, length, sum, IfOk};
 ghost use Rattle.tomo_base.specs.Identify.{IsAssignment};
 ghost use Rattle.planner.specs.Planned.{IsPlanned};
-ghost use Rattle.drill.specs.Generated.{pair_count};
+ghost use Rattle.drill.specs.Generated.{CanDraw};
 ghost use Rattle.drill.specs.Drill as spec;
 ghost use Rattle.drill.specs.Drill.{IsDrill};
 
@@ -45,12 +45,7 @@ fn measured(alloc: Global, t: &Topology, p: &Plan, delays: &[u64]) -> Result<Fou
 /// monitors the plan has and how many its pockets show to be needed, `paths` how many paths it has and the sum of the sums along them,
 /// and `total` the sum of the solved delays. The error comes for want of memory alone.
 pub fn drill(alloc: Global, seed: u32, n: u32, l: u32) -> Result<Rows, NoMemory>
-    requires seed { seed < 2 ^ 31 }
-    requires some_nodes { 3 ≤ n }
-    requires few_nodes { n ≤ 1000 }
-    requires joined { n ≤ l + 1 }
-    requires few_links { l ≤ 4000 }
-    requires room { l ≤ pair_count n }
+    requires { CanDraw seed n l }
     ensures { IfOk result (IsDrill seed n l) }
 {
     let mut draws = Draws::new(seed);

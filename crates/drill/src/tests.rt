@@ -1,7 +1,7 @@
 // Drills, where memory is ample.
-ghost use Rattle.std.specs.Prelude.{◌≡◌, ◌<◌, ◌≤◌, ◌+◌, ◌^◌, length, All, IfOk};
+ghost use Rattle.std.specs.Prelude.{◌≡◌, ◌≤◌, ◌^◌, length, All, IfOk};
 ghost use Rattle.planner.specs.Planned.{IsPlanned};
-ghost use Rattle.drill.specs.Generated.{pair_count};
+ghost use Rattle.drill.specs.Generated.{CanDraw};
 
 use crate::{drill, generate};
 use cert_check::{Report, check};
@@ -65,12 +65,7 @@ fn sums(alloc: Global, t: &Topology, plan: &Plan, delays: &[u64]) -> Result<Vec<
 // Whether the plan of a drawn network is found good, with as many monitors as its pockets show, and its sums are solved, where each link
 // has its number for a delay.
 fn is_solved(alloc: Global, seed: u32, n: u32, l: u32) -> Result<bool, Fail>
-    requires seed { seed < 2 ^ 31 }
-    requires some_nodes { 3 ≤ n }
-    requires few_nodes { n ≤ 1000 }
-    requires joined { n ≤ l + 1 }
-    requires few_links { l ≤ 4000 }
-    requires room { l ≤ pair_count n }
+    requires { CanDraw seed n l }
 {
     let g = generate(alloc, seed, n, l)?;
     let Ok(t) = Topology::numbered(alloc, g) else {

@@ -1,8 +1,9 @@
 -- What is measured can be made a plan: however paths are turned and their coefficients added up, each recipe stays short.
-use Rattle.std.proofs.Common.{◌≡◌, ◌≢◌, ℕ, ◌<◌, ◌≤◌, Bool, List, [], ◌∷◌, length, map, get_or, All, ℤ, pos, refl, sym, ap, ◌∙◌, subst, inl, inr, arith}
+use Rattle.std.proofs.Common.{◌≡◌, ◌≢◌, ℕ, ◌<◌, ◌≤◌, Bool, true, IsTrue, List, [], ◌∷◌, length, map, get_or, All, ℤ, pos, refl, sym, ap, ◌∙◌, subst, inl, inr, arith}
 use Rattle.std.proofs.lemmas.List.{length-map, get_or-map}
 use Rattle.tomo_base.specs.Network.{Network}
 use Rattle.tomo_base.specs.Sets.{has}
+use Rattle.tomo_base.proofs.Ascending.{has-at}
 use Rattle.simple_path.specs.declared.recipe.Term.{Term}
 use Rattle.simple_path.specs.Terms.{path_terms}
 use Rattle.cross_links.specs.CrossRecipe.{IsCrossCoefficient, Differ, IsCrossRecipe}
@@ -11,7 +12,7 @@ use Rattle.plan_form.specs.Building.{turned, renumbered, IsRewritten}
 use Rattle.plan_form.specs.Buildable.{IsShort, IsBuildable}
 use Rattle.plan_form.proofs.Turning.{turned_keeps, has_back}
 use Rattle.planner.specs.Measures.{AreMeasures}
-use Rattle.planner.proofs.Merged.{Different, merged_given, merged_few, merged_some}
+use Rattle.planner.proofs.Merged.{numbers_of, Different, merged_given, merged_few, merged_kept}
 use Rattle.planner.proofs.Measuring.{length-path_terms}
 
 -- a turned path has the same nodes
@@ -81,6 +82,14 @@ module _ (g : Network) (m : ℕ → Bool) (i : ℕ) (pool paths : List (List ℕ
   below : All (λ t. t.path < length paths) old
   below k d l = let lt : k < length ts = omega (arith, l, size) in rw (old_at k d lt) (rewritten.names k d lt).0
 
+  -- the path of a term is named by a merged term
+  pub stays_named : (k : ℕ) (d : Term) → k < length ts → IsTrue (has (numbers_of new) (rewritten.number (get_or ts k d).path))
+  stays_named k d l =
+      let left = merged_kept old new k d different rewritten.merged (omega (arith, l, size)) (cross_coefficient _ (coefficient k d l)).1 in
+      let same : (get_or new left.0 d).path ≡ rewritten.number (get_or ts k d).path = left.2 d ∙ ap (λ (t : Term). t.path) (old_at k d l) in
+      let at : get_or (numbers_of new) left.0 0 ≡ (get_or new left.0 d).path = get_or-map (λ (t : Term). t.path) new left.0 d 0 left.1 in
+      subst (λ n. has (numbers_of new) n ≡ true) (at ∙ same) (has-at (numbers_of new) left.0 0 (omega (arith, left.1, length-map new (λ (t : Term). t.path))))
+
   -- the merged terms are at most four
   pub stays_few : length new ≤ 4
   stays_few = omega (arith, merged_few (length paths) old new different rewritten.merged below, cross.few, length-path_terms pool ts, size)
@@ -89,7 +98,7 @@ module _ (g : Network) (m : ℕ → Bool) (i : ℕ) (pool paths : List (List ℕ
   pub stays_short : IsShort new
   stays_short =
       let some : 1 ≤ length ts = omega (arith, cross.some, length-path_terms pool ts) in (
-        merged_some old new no_term different rewritten.merged (omega (arith, some, size)) (cross_coefficient _ (coefficient 0 no_term (omega (arith, some)))).1,
+        (let left = merged_kept old new 0 no_term different rewritten.merged (omega (arith, some, size)) (cross_coefficient _ (coefficient 0 no_term (omega (arith, some)))).1 in omega (arith, left.1)),
         omega (arith, stays_few),
         λ k d l.
             let given = merged_given old new k d different rewritten.merged l in

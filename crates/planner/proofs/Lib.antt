@@ -1,4 +1,5 @@
 pub mod Merged
 pub mod Measuring
 pub mod Buildable
+pub mod Named
 pub mod Whole

@@ -109,8 +109,8 @@ merged_few n old new apart merged below =
     All-has-below : (n : ℕ) (xs ys : List ℕ) → ((v : ℕ) → has xs v ≡ true → has ys v ≡ true) → All (λ v. v < n) ys → All (λ v. v < n) xs
     All-has-below n xs ys given all = All-from_has (λ v. v < n) xs (λ v h. All-has (λ v. v < n) ys all v (given v h))
 
--- where a term was given with a coefficient that is not 0, one is left
-pub merged_some : (old new : List Term) (d : Term) → Different old → IsMerged old new → 1 ≤ length old → (get_or old 0 d).coef ≢ pos 0 → 1 ≤ length new
-unfolding sum_at
-merged_some old [] d apart merged some coef = absurd (coef (sym (sum_once old 0 d (omega (arith, some)) apart) ∙ sym (merged.sums (get_or old 0 d).path)))
-merged_some old (t ∷ ts) d apart merged some coef = omega arith
+-- a term that was given with a coefficient that is not 0 is left
+pub merged_kept : (old new : List Term) (j : ℕ) (d : Term) → Different old → IsMerged old new → j < length old → (get_or old j d).coef ≢ pos 0 → (i : ℕ) × (i < length new) × ((e : Term) → (get_or new i e).path ≡ (get_or old j d).path)
+merged_kept old new j d apart merged l some =
+    let there : sum_at new (get_or old j d).path ≡ (get_or old j d).coef = merged.sums (get_or old j d).path ∙ sum_once old j d l apart in
+    sum_found new (get_or old j d).path (λ none. some (sym there ∙ none))

@@ -23,9 +23,10 @@ use Rattle.plan_form.specs.Building.{IsBuilt}
 use Rattle.plan_form.specs.Buildable.{as_part}
 use Rattle.plan_form.specs.Good.{AreGoodPaths, IsGoodPocket, AreGoodPockets, AreGoodRecipes, IsGoodRecipe, IsGoodPlan, pocket_sets}
 use Rattle.plan_form.proofs.Recipes.{good_recipes_are}
-use Rattle.planner.specs.Measures.{AreMeasures}
+use Rattle.planner.specs.Measures.{IsNamed, AreMeasures}
 use Rattle.planner.specs.Planned.{IsPlanned, IsPlanFor}
 use Rattle.planner.proofs.Buildable.{stays_few}
+use Rattle.planner.proofs.Named.{named_after}
 
 -- the sets of a plan's pockets are those of the given pockets
 sets_same : (pockets : List Pocket) → pocket_sets (map as_part pockets) ≡ sets_of pockets
@@ -75,6 +76,7 @@ pub record IsMade (t : Topo) (m : List ℕ) (pockets : List Pocket) (p : PlanPar
   pub same_pockets : p.pockets ≡ map as_part pockets
   pub paths : AreGoodPaths t.graph (has m) p.paths
   pub few_paths : length p.paths ≤ 4 * length t.graph.links
+  pub none_idle : (k : ℕ) → k < length p.paths → IsNamed p.recipes k
   pub recipes : AreGoodRecipes t.graph p.paths p.recipes
   pub few_terms : (i : ℕ) → i < length p.recipes → length (get_or p.recipes i []) ≤ 4
 
@@ -92,6 +94,7 @@ built_made t (Ok p) m pockets pool old measured formed names links monitors part
   same_pockets = parts;
   paths = paths;
   few_paths = omega (arith, few, measured.few);
+  none_idle = named_after t.graph (has m) (length t.graph.links) pool p.paths old p.recipes measured built;
   recipes = record {
     one_each = built.one_each ∙ measured.one_each;
     each = λ i l. let lt : i < length old = omega (arith, l, built.one_each) in kept i lt (measured.crosses i lt).recipe;
@@ -131,6 +134,8 @@ module _ (t : Topo) (m : List ℕ) (pockets : List Pocket) (topo : IsTopology t)
         lowest = rw made.monitors lowest;
         homes = rw (made.monitors, sets) homes;
         few_paths = omega (arith, made.few_paths, ap (λ xs. length xs) made.links);
+        none_idle = made.none_idle;
+        few_terms = made.few_terms;
         identified = recipes_identify t.graph p.paths (good_recipes_are t.graph p.paths p.recipes made.recipes);
         shown = rw (made.monitors, sets) shows;
         least = λ s other. rw made.monitors (pockets_bound t.graph s (sets_of pockets) (length m) topo.graph topo.connected (omega (arith, topo.some_nodes)) shows other);
@@ -157,6 +162,7 @@ all_planned_for t m (Ok p) topo below up made = (
     monitors = made.monitors;
     no_pockets = made.same_pockets;
     few_paths = omega (arith, made.few_paths, ap (λ xs. length xs) made.links);
+    none_idle = made.none_idle;
     few_terms = made.few_terms;
     identified = recipes_identify t.graph p.paths (good_recipes_are t.graph p.paths p.recipes made.recipes);
   },

@@ -7,6 +7,7 @@ use Rattle.tomo_base.specs.Lowest.{IsLowest}
 use Rattle.tomo_base.specs.Pockets.{Shows, AreHomePockets}
 use Rattle.plan_form.specs.Parts.{PlanParts, IsWellFormed}
 use Rattle.plan_form.specs.Good.{IsGoodPlan, pocket_sets}
+use Rattle.planner.specs.Measures.{IsNamed}
 
 pub record IsPlanned (given : List (List ℕ)) (g : Network) (p : PlanParts) : Type 0 where
   -- the plan can be spelled
@@ -17,8 +18,11 @@ pub record IsPlanned (given : List (List ℕ)) (g : Network) (p : PlanParts) : T
   pub lowest : IsLowest g (has p.monitors)
   -- the pockets are the home pockets of the monitors
   pub homes : AreHomePockets g (has p.monitors) nothing (pocket_sets p.pockets)
-  -- at most four paths for each link
+  -- at most four paths for each link, and each path is named by a recipe
   pub few_paths : length p.paths ≤ 4 * length p.links
+  pub none_idle : (k : ℕ) → k < length p.paths → IsNamed p.recipes k
+  -- at most four paths in each recipe
+  pub few_terms : (i : ℕ) → i < length p.recipes → length (slice_index_or p.recipes i []) ≤ 4
   -- the printed paths determine every link's delay
   pub identified : Identified g p.paths
   -- the printed pockets show that so many monitors are needed
@@ -33,5 +37,6 @@ pub record IsPlanFor (given : List (List ℕ)) (g : Network) (m : List ℕ) (p :
   pub monitors : p.monitors ≡ m
   pub no_pockets : p.pockets ≡ []
   pub few_paths : length p.paths ≤ 4 * length p.links
+  pub none_idle : (k : ℕ) → k < length p.paths → IsNamed p.recipes k
   pub few_terms : (i : ℕ) → i < length p.recipes → length (slice_index_or p.recipes i []) ≤ 4
   pub identified : Identified g p.paths

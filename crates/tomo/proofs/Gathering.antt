@@ -9,8 +9,10 @@ use Rattle.outside.specs.declared.shelf.Got.TheVariants.{Whole, TooLong}
 use Rattle.outside.specs.declared.shelf.ShelfFault.{ShelfFault}
 use Rattle.outside.specs.declared.shelf.ShelfFault.TheVariants.{NoMemory, Failed}
 use Rattle.rows.specs.Rows.{Row}
-use Rattle.tomo.specs.Machine.{Steps, Fewer, files_left, kind_of}
-use Rattle.tomo.specs.Table.{limit}
+use Rattle.tomo.specs.Machine.{Steps, Fewer, files_left, kind_of, start}
+use Rattle.tomo.specs.Table.{limit, shape, file_words, first_place}
+use Rattle.tomo.specs.declared.table.Shape.{Shape}
+use Rattle.tomo.proofs.Shape.{file_named}
 use Rattle.tomo.specs.declared.table.Kind.{Kind}
 use Rattle.tomo.specs.Answers.{Ends}
 use Rattle.tomo.specs.Run.{RunFrom, AsksFrom, AsksOnly, LeadsTo, AddsFront, AsksAll, KnowsAll}
@@ -218,3 +220,14 @@ pub within_wanted : (told : Option Files) (name : List ℕ) (wants : Wants) (kin
     → Gives told name most (Ok got) content → length content ≤ limit (kind_of wants)
 within_wanted told name wants kind most got content of_wants of_kind gives =
     within_limit told name (limit (kind_of wants)) got content (gives_wanted told told name wants kind most got content refl of_wants of_kind gives)
+
+-- the name that stands at a turn's place among the words is the one that is wanted
+pub turn_named : (told : Option Files) (words : List (List ℕ)) (s : Shape) (old asked : List (List ℕ)) (place turn : ℕ) (wants : Wants) (name : List ℕ) → shape words ≡ Some s
+    → Reading told (file_words words) (start s) old asked turn wants → place ≡ first_place s.header → name ≡ get_or words (place + turn) [] → name ≡ get_or (file_words words) turn []
+turn_named told words s old asked place turn wants name shaped r at same = file_named words s place turn name shaped (turn_below told (file_words words) (start s) old asked turn wants r) at same
+
+-- and what was asked for after its read is a front of the names
+pub turn_asks : (told : Option Files) (words : List (List ℕ)) (s : Shape) (old asked new : List (List ℕ)) (place turn : ℕ) (wants : Wants) (name : List ℕ) (result : Result Got ShelfFault) → shape words ≡ Some s
+    → Reading told (file_words words) (start s) old asked turn wants → place ≡ first_place s.header → name ≡ get_or words (place + turn) [] → Asks asked new name result → Fronts told (file_words words) (start s) old new
+turn_asks told words s old asked new place turn wants name result shaped r at same asks =
+    reading_asks told (file_words words) (start s) old asked new turn wants name result r (turn_named told words s old asked place turn wants name shaped r at same) asks

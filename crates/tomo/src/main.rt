@@ -1,7 +1,8 @@
 //! Plans the measuring of link delays.
 #![tactic(auto)]
 
-ghost use Rattle.std.specs.Prelude.{◌≡◌};
+ghost use Rattle.std.specs.Prelude.{◌≡◌, drop, map, string_bytes, IfOk};
+ghost use Rattle.std.specs.Vec.Iter.{into_iter_items};
 
 mod answer;
 mod checked;
@@ -29,7 +30,9 @@ mod write;
 use outside::{FileShelf, StdSink};
 use run::tomo;
 use status::{Status, exit_status, fault_line};
+use std::alloc::Global;
 use std::env;
+use std::env::Args;
 use std::io::ErrorKind;
 use std::process::ExitCode;
 use tomo_base::{NoMemory, Words};
@@ -50,21 +53,28 @@ impl From<NoMemory> for NoWords {
     }
 }
 
-// The words after the program's name.
-fn words_of(rt: &(impl std::rt::Env + AllocGlobal)) -> Result<Words, NoWords> {
-    let args = match env::args(rt) {
-        Ok(args) => args,
-        Err(e) if e.kind() == ErrorKind::OutOfMemory => return Err(NoWords::NoMemory),
-        Err(_) => return Err(NoWords::Unreadable),
-    };
-    let mut words = Words::new(rt.alloc());
-    for word in args.skip(1) {
+// The words after the first of them, which is the program's name.
+fn words_after_name(alloc: Global, mut args: Args) -> Result<Words, NoWords>
+    ensures { IfOk result (λ words. words ≡ map string_bytes (drop 1 (into_iter_items args))) }
+{
+    let mut words = Words::new(alloc);
+    let _name = args.next();
+    for word in args {
         if words.len() == u32::MAX {
             return Err(NoWords::NoMemory);
         }
         words.push(word.as_str())?;
     }
     Ok(words)
+}
+
+// The words of the command line.
+fn words_of(rt: &(impl std::rt::Env + AllocGlobal)) -> Result<Words, NoWords> {
+    match env::args(rt) {
+        Ok(args) => words_after_name(rt.alloc(), args),
+        Err(e) if e.kind() == ErrorKind::OutOfMemory => Err(NoWords::NoMemory),
+        Err(_) => Err(NoWords::Unreadable),
+    }
 }
 
 fn main(rt: HostRuntime) -> ExitCode {

@@ -7,4 +7,4 @@ use Rattle.drill.proofs.network.generate.Goals as goal
 
 pub returns-clause-connected : goal.returns-clause-connected
 returns-clause-connected c = IfOk-weaker c.network.result (λ g. g ≡ generated c.args.seed c.args.n c.args.l) IsConnected
-    (λ g is. subst IsConnected (sym is) (drawn_connected c.args.seed c.args.n c.args.l c.requires.joined)) (rw c.new.ensures at c.network.ensures.graph)
+    (λ g is. subst IsConnected (sym is) (drawn_connected c.args.seed c.args.n c.args.l c.requires.3)) (rw c.new.ensures at c.network.ensures.graph)

@@ -3,8 +3,8 @@ use Rattle.std.proofs.lemmas.List.{append-nil}
 use Rattle.outside.specs.Shelf.{Gives}
 use Rattle.tomo.specs.Table.{file_words, limit}
 use Rattle.tomo.specs.Machine.{start, kind_of}
-use Rattle.tomo.proofs.Shape.{file_place, file_named, file_count, files_few, start_fit, files_fit}
-use Rattle.tomo.proofs.Gathering.{taken_none, fronts_before, taken_leads, turn_below, reading_first, reading_asks, reading_more, reading_ends, asks_all, asked_more, knows_at, gives_wanted, within_wanted}
+use Rattle.tomo.proofs.Shape.{file_place, file_count, files_few, start_fit, files_fit}
+use Rattle.tomo.proofs.Gathering.{taken_none, fronts_before, taken_leads, turn_below, turn_named, turn_asks, reading_first, reading_more, reading_ends, asks_all, asked_more, knows_at, gives_wanted, within_wanted}
 use Rattle.tomo.proofs.gather.gather.Goals as goal
 
 pub loop-content-init : goal.loop-content-init
@@ -43,51 +43,33 @@ feed-requires g c = within_wanted _ c.at-name.result.now c.loop-content.wants c.
 
 pub returns-in_err-got-clause-asked : goal.returns-in_err-got-clause-asked
 returns-in_err-got-clause-asked g c =
-    let here = c.loop-content.invariant in
-    let below = turn_below _ _ _ _ _ _ _ here.reading in
-    let name = file_named c.args.words.now c.args.shape c.first-first.result c.loop-content.turn c.at-name.result.now c.requires below c.first-first.ensures c.at-name.ensures in
-    (reading_asks (g.S.Shelf.told c.args.shelf.now) (file_words c.args.words.now) (start c.args.shape) _ _ _ c.loop-content.turn c.loop-content.wants c.at-name.result.now c.read.result here.reading name c.read.ensures.asks).0
+    (turn_asks _ c.args.words.now c.args.shape _ _ _ c.first-first.result c.loop-content.turn c.loop-content.wants c.at-name.result.now c.read.result c.requires c.loop-content.invariant.reading c.first-first.ensures c.at-name.ensures c.read.ensures.asks).0
 
 pub returns-in_err-got-clause-stops : goal.returns-in_err-got-clause-stops
 returns-in_err-got-clause-stops g c =
-    let here = c.loop-content.invariant in
-    let below = turn_below _ _ _ _ _ _ _ here.reading in
-    let name = file_named c.args.words.now c.args.shape c.first-first.result c.loop-content.turn c.at-name.result.now c.requires below c.first-first.ensures c.at-name.ensures in
-    (reading_asks (g.S.Shelf.told c.args.shelf.now) (file_words c.args.words.now) (start c.args.shape) _ _ _ c.loop-content.turn c.loop-content.wants c.at-name.result.now c.read.result here.reading name c.read.ensures.asks).1
+    (turn_asks _ c.args.words.now c.args.shape _ _ _ c.first-first.result c.loop-content.turn c.loop-content.wants c.at-name.result.now c.read.result c.requires c.loop-content.invariant.reading c.first-first.ensures c.at-name.ensures c.read.ensures.asks).1
 
 pub returns-in-Ok-Stop-clause-asked : goal.returns-in-Ok-Stop-clause-asked
 returns-in-Ok-Stop-clause-asked g c =
-    let here = c.loop-content.invariant in
-    let below = turn_below _ _ _ _ _ _ _ here.reading in
-    let name = file_named c.args.words.now c.args.shape c.first-first.result c.loop-content.turn c.at-name.result.now c.requires below c.first-first.ensures c.at-name.ensures in
-    (reading_asks (g.S.Shelf.told c.args.shelf.now) (file_words c.args.words.now) (start c.args.shape) _ _ _ c.loop-content.turn c.loop-content.wants c.at-name.result.now c.read.result here.reading name c.read.ensures.asks).0
+    (turn_asks _ c.args.words.now c.args.shape _ _ _ c.first-first.result c.loop-content.turn c.loop-content.wants c.at-name.result.now c.read.result c.requires c.loop-content.invariant.reading c.first-first.ensures c.at-name.ensures c.read.ensures.asks).0
 
 pub returns-in-Ok-Stop-clause-stops : goal.returns-in-Ok-Stop-clause-stops
 returns-in-Ok-Stop-clause-stops g c =
-    let here = c.loop-content.invariant in
-    let below = turn_below _ _ _ _ _ _ _ here.reading in
-    let name = file_named c.args.words.now c.args.shape c.first-first.result c.loop-content.turn c.at-name.result.now c.requires below c.first-first.ensures c.at-name.ensures in
-    (reading_asks (g.S.Shelf.told c.args.shelf.now) (file_words c.args.words.now) (start c.args.shape) _ _ _ c.loop-content.turn c.loop-content.wants c.at-name.result.now c.read.result here.reading name c.read.ensures.asks).1
+    (turn_asks _ c.args.words.now c.args.shape _ _ _ c.first-first.result c.loop-content.turn c.loop-content.wants c.at-name.result.now c.read.result c.requires c.loop-content.invariant.reading c.first-first.ensures c.at-name.ensures c.read.ensures.asks).1
 
 pub returns-in-Err-clause-asked : goal.returns-in-Err-clause-asked
 returns-in-Err-clause-asked g c =
-    let here = c.loop-content.invariant in
-    let below = turn_below _ _ _ _ _ _ _ here.reading in
-    let name = file_named c.args.words.now c.args.shape c.first-first.result c.loop-content.turn c.at-name.result.now c.requires below c.first-first.ensures c.at-name.ensures in
-    (reading_asks (g.S.Shelf.told c.args.shelf.now) (file_words c.args.words.now) (start c.args.shape) _ _ _ c.loop-content.turn c.loop-content.wants c.at-name.result.now c.read.result here.reading name c.read.ensures.asks).0
+    (turn_asks _ c.args.words.now c.args.shape _ _ _ c.first-first.result c.loop-content.turn c.loop-content.wants c.at-name.result.now c.read.result c.requires c.loop-content.invariant.reading c.first-first.ensures c.at-name.ensures c.read.ensures.asks).0
 
 pub returns-in-Err-clause-stops : goal.returns-in-Err-clause-stops
 returns-in-Err-clause-stops g c =
-    let here = c.loop-content.invariant in
-    let below = turn_below _ _ _ _ _ _ _ here.reading in
-    let name = file_named c.args.words.now c.args.shape c.first-first.result c.loop-content.turn c.at-name.result.now c.requires below c.first-first.ensures c.at-name.ensures in
-    (reading_asks (g.S.Shelf.told c.args.shelf.now) (file_words c.args.words.now) (start c.args.shape) _ _ _ c.loop-content.turn c.loop-content.wants c.at-name.result.now c.read.result here.reading name c.read.ensures.asks).1
+    (turn_asks _ c.args.words.now c.args.shape _ _ _ c.first-first.result c.loop-content.turn c.loop-content.wants c.at-name.result.now c.read.result c.requires c.loop-content.invariant.reading c.first-first.ensures c.at-name.ensures c.read.ensures.asks).1
 
 pub returns-in_err-got-clause-sure : goal.returns-in_err-got-clause-sure
 returns-in_err-got-clause-sure g c is_sure knows failed =
     let here = c.loop-content.invariant in
     let below = turn_below _ _ _ _ _ _ _ here.reading in
-    let name = file_named c.args.words.now c.args.shape c.first-first.result c.loop-content.turn c.at-name.result.now c.requires below c.first-first.ensures c.at-name.ensures in
+    let name = turn_named _ c.args.words.now c.args.shape _ _ c.first-first.result c.loop-content.turn c.loop-content.wants c.at-name.result.now c.requires here.reading c.first-first.ensures c.at-name.ensures in
     let known = rw (← name, ← here.told) at (knows_at (g.S.Shelf.told c.args.shelf.now) (file_words c.args.words.now) c.loop-content.turn knows below) in
     let came = rw failed at c.from_residual.ensures.1 in
     (c.read.ensures.honest (rw here.sure is_sure) known).0 (c.in_err-got.was ∙ ap Err (sym came))
@@ -96,15 +78,14 @@ pub returns-in-Ok-Stop-clause-all_asked : goal.returns-in-Ok-Stop-clause-all_ask
 returns-in-Ok-Stop-clause-all_asked g c =
     let here = c.loop-content.invariant in
     let below = turn_below _ _ _ _ _ _ _ here.reading in
-    let name = file_named c.args.words.now c.args.shape c.first-first.result c.loop-content.turn c.at-name.result.now c.requires below c.first-first.ensures c.at-name.ensures in
+    let name = turn_named _ c.args.words.now c.args.shape _ _ c.first-first.result c.loop-content.turn c.loop-content.wants c.at-name.result.now c.requires here.reading c.first-first.ensures c.at-name.ensures in
     asks_all _ _ (file_words c.args.words.now) c.loop-content.turn c.loop-content.wants c.in-Ok-Stop.end (rw c.in-Ok-Stop.field-0-is at c.in-Ok-Stop.ensures.fewer) here.reading.left
     (asked_more (file_words c.args.words.now) c.loop-content.turn c.at-name.result.now _ _ _ below name here.reading.so_far c.in_ok-got.ensures.asks)
 
 pub returns-in-Ok-Stop-clause-leads : goal.returns-in-Ok-Stop-clause-leads
 returns-in-Ok-Stop-clause-leads g c =
     let here = c.loop-content.invariant in
-    let below = turn_below _ _ _ _ _ _ _ here.reading in
-    let name = file_named c.args.words.now c.args.shape c.first-first.result c.loop-content.turn c.at-name.result.now c.requires below c.first-first.ensures c.at-name.ensures in
+    let name = turn_named _ c.args.words.now c.args.shape _ _ c.first-first.result c.loop-content.turn c.loop-content.wants c.at-name.result.now c.requires here.reading c.first-first.ensures c.at-name.ensures in
     let gives : Gives (g.S.Shelf.told c.args.shelf.now) c.at-name.result.now (limit (kind_of c.loop-content.wants)) (Ok c.in_ok-got.got) c.read.new.out.items =
     gives_wanted _ _ c.at-name.result.now c.loop-content.wants c.kind.result c.limit_of.result c.in_ok-got.got c.read.new.out.items here.told c.kind.ensures c.limit_of.ensures c.in_ok-got.ensures.gives in
     let steps = rw c.in-Ok-Stop.field-0-is at (c.in-Ok-Stop.ensures.steps (g.S.Shelf.told c.args.shelf.now) gives) in
@@ -113,8 +94,7 @@ returns-in-Ok-Stop-clause-leads g c =
 pub loop-content-preserved : goal.loop-content-preserved
 loop-content-preserved g c =
     let here = c.loop-content.invariant in
-    let below = turn_below _ _ _ _ _ _ _ here.reading in
-    let name = file_named c.args.words.now c.args.shape c.first-first.result c.loop-content.turn c.at-name.result.now c.requires below c.first-first.ensures c.at-name.ensures in
+    let name = turn_named _ c.args.words.now c.args.shape _ _ c.first-first.result c.loop-content.turn c.loop-content.wants c.at-name.result.now c.requires here.reading c.first-first.ensures c.at-name.ensures in
     let gives : Gives (g.S.Shelf.told c.args.shelf.now) c.at-name.result.now (limit (kind_of c.loop-content.wants)) (Ok c.in_ok-got.got) c.read.new.out.items =
     gives_wanted _ _ c.at-name.result.now c.loop-content.wants c.kind.result c.limit_of.result c.in_ok-got.got c.read.new.out.items here.told c.kind.ensures c.limit_of.ensures c.in_ok-got.ensures.gives in
     let steps = rw c.in-Ok-Ask.field-0-is at (c.in-Ok-Ask.ensures.steps (g.S.Shelf.told c.args.shelf.now) gives) in

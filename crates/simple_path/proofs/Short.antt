@@ -8,7 +8,7 @@ use Rattle.tomo_base.proofs.Counts.{count-le, count-less}
 use Rattle.tomo_base.proofs.Links.{linked_below}
 
 -- different numbers below n are no more than their set has
-few_once : (n : ℕ) (xs : List ℕ) → NoneTwice xs → ((v : ℕ) → has xs v ≡ true → v < n) → length xs ≤ count n (has xs)
+pub few_once : (n : ℕ) (xs : List ℕ) → NoneTwice xs → ((v : ℕ) → has xs v ≡ true → v < n) → length xs ≤ count n (has xs)
 unfolding has
 few_once n [] once below = omega arith
 few_once n (x ∷ xs) once below =

@@ -1,5 +1,5 @@
 -- Where nothing is banned, the sets that stop a flow are those that cut its source off from the targets.
-use Rattle.std.proofs.Common.{ℕ, ◌≤◌, ◌≡◌, Bool, false, not, ◌&&◌, List, [], length, refl, sym, ◌∙◌, arith}
+use Rattle.std.proofs.Common.{ℕ, ◌≤◌, ◌≡◌, Bool, false, not, ◌&&◌, List, [], length, sym, ◌∙◌, arith}
 use Rattle.tomo_base.specs.Network.{Network}
 use Rattle.tomo_base.specs.Sets.{has, outside, size}
 use Rattle.tomo_base.specs.BadParts.{IsCutOff}
@@ -7,12 +7,8 @@ use Rattle.tomo_base.proofs.Counts.{count-same}
 use Rattle.unit_flow.specs.Flows.{Task, IsTask, task_of, no_paths, IsFlow, ways_out, IsCut}
 use Rattle.unit_flow.specs.Widening.{IsStuck}
 use Rattle.unit_flow.specs.Fan.{IsLeastCutOff}
+use Rattle.unit_flow.proofs.Lists.{has_none}
 use Rattle.unit_flow.proofs.Tasks.{cut_bound}
-
--- no node stands in the empty list
-pub none_banned : (v : ℕ) → has [] v ≡ false
-unfolding has
-none_banned v = refl
 
 -- a set is left whole by an empty one
 whole : (a b : Bool) → b ≡ false → (a && not b) ≡ a
@@ -25,11 +21,11 @@ module _ (g : Network) (v : ℕ) (m : List ℕ) (ok : IsTask (task_of (no_paths 
 
   -- all outside neighbours are ways out
   ways_same : (q : ℕ → Bool) → size g (ways_out t q) ≡ size g (outside g q)
-  ways_same q = count-same g.nodes (ways_out t q) (outside g q) (λ u l. whole (outside g q u) (has [] u) (none_banned u))
+  ways_same q = count-same g.nodes (ways_out t q) (outside g q) (λ u l. whole (outside g q u) (has [] u) (has_none u))
 
   -- a set that cuts v off stops the flow
   cut_in : (k : ℕ) (q : ℕ → Bool) → IsCutOff g (has m) v k q → IsCut t k q
-  cut_in k q c = record { stops = record { source = c.holds; no_target = c.free; no_banned = λ u l h. none_banned u }; exits = ways_same q ∙ c.bounded }
+  cut_in k q c = record { stops = record { source = c.holds; no_target = c.free; no_banned = λ u l h. has_none u }; exits = ways_same q ∙ c.bounded }
 
   -- and the other way
   cut_out : (k : ℕ) (q : ℕ → Bool) → IsCut t k q → IsCutOff g (has m) v k q

@@ -1,11 +1,10 @@
 -- What the fields of a flow keep when a path is taken into it, when it has one path more, and when it is stuck.
-use Rattle.std.proofs.Common.{ℕ, ◌+◌, ◌<◌, ◌≤◌, ◌≡◌, Bool, true, eqb, List, [], ◌∷◌, map, length, set, take, Vec, refl, sym, ap, ap₂, subst, ◌∙◌, arith, inl, inr, None, length-append, length-take-le, length-set}
+use Rattle.std.proofs.Common.{ℕ, ◌+◌, ◌<◌, ◌≤◌, ◌≡◌, Bool, true, List, [], ◌∷◌, map, length, set, take, Vec, refl, sym, ap, ap₂, subst, ◌∙◌, arith, inl, inr, None, length-append, length-take-le, length-set}
 use Rattle.std.specs.Global.{Global}
 use Rattle.std.specs.List.{AllByRecursion}
-use Rattle.std.proofs.lemmas.Bool.{cases_lt, both_ways, false≢true, eqb-true, or_cases}
+use Rattle.std.proofs.lemmas.Bool.{cases_lt, both_ways, false≢true}
 use Rattle.std.proofs.lemmas.List.{length-map}
 use Rattle.std.proofs.lemmas.List.Elements.{recursion_from_All}
-use Rattle.std.proofs.lemmas.Map.Steps.{length-le_from_distinct_below}
 use Rattle.std.proofs.Math.Seq.{take-length}
 use Rattle.tomo_base.specs.Network.{Network, linked}
 use Rattle.tomo_base.specs.Search.{mark_of}
@@ -16,10 +15,9 @@ use Rattle.unit_flow.specs.Flows.{Task, IsTask, IsRoute, IsFlow, IsWider, IsLeas
 use Rattle.unit_flow.specs.Widening.{IsStuck}
 use Rattle.unit_flow.specs.Kept.{IsKept}
 use Rattle.unit_flow.specs.Search.{asked, IsAsked}
-use Rattle.unit_flow.proofs.Lists.{is_in}
+use Rattle.unit_flow.proofs.Lists.{has_cases, few_below}
 use Rattle.unit_flow.proofs.Load.{all_on}
 use Rattle.unit_flow.proofs.Back.{on_low}
-use Rattle.unit_flow.proofs.Bridge.{distinct_of}
 use Rattle.unit_flow.proofs.Tasks.{jb, cut_bound}
 use Rattle.unit_flow.proofs.Results.{array_of, array_arcs}
 use Rattle.unit_flow.proofs.Marking.{unmarked_past}
@@ -35,11 +33,11 @@ same_task g a targets banned h k =
 module _ (t : Task) (ok : IsTask t) where
   -- a flow has no more nodes after the source than the graph has others
   pub flow_small : (ps : List (List ℕ)) → IsFlow t ps → length (all_later ps) + 1 ≤ t.graph.nodes
-  flow_small ps flow = omega (arith, length-le_from_distinct_below (t.source ∷ all_later ps) t.graph.nodes (distinct_of (t.source ∷ all_later ps) flow.apart) low)
+  flow_small ps flow = omega (arith, few_below t.graph.nodes (t.source ∷ all_later ps) flow.apart low)
     where
-      low : (v : ℕ) → is_in (t.source ∷ all_later ps) v ≡ true → v < t.graph.nodes
-      low v h = elim (or_cases (eqb v t.source) (is_in (all_later ps) v) h) [
-        | inl e ↦ subst (λ z. z < t.graph.nodes) (sym (eqb-true v t.source e)) ok.below
+      low : (v : ℕ) → has (t.source ∷ all_later ps) v ≡ true → v < t.graph.nodes
+      low v h = elim (has_cases t.source (all_later ps) v h) [
+        | inl e ↦ subst (λ z. z < t.graph.nodes) e ok.below
         | inr e ↦ on_low (linked t.graph) t.banned t.targets t.source t.graph.nodes (λ x y h. (jb t ok x y h).1) ok.no_target (array_of t ok ps) v (array_arcs t ok ps flow) (all_on t.source (λ _. None) ps v e)
       ]
 

@@ -9,7 +9,6 @@ use Rattle.simple_path.specs.Pools.{nodes_in}
 use Rattle.unit_flow.specs.Flows.{Task, IsTask, IsRoute, IsFlow, all_later, second_of}
 use Rattle.unit_flow.proofs.Start.{picks}
 use Rattle.unit_flow.proofs.Law.{member_leads}
-use Rattle.unit_flow.proofs.Bridge.{none_twice_of}
 use Rattle.unit_flow.proofs.Tasks.{jb, jne, flow_in}
 use Rattle.unit_flow.proofs.Kept.{flow_small, flow_few}
 
@@ -30,7 +29,7 @@ module _ (t : Task) (ok : IsTask t) where
   pub seconds_differ : (ps : List (List ℕ)) → IsFlow t ps → NoneTwice (map second_of ps)
   seconds_differ ps flow =
       let a = flow_in t ok ps flow in
-      none_twice_of (map second_of ps) (picks second_of ps (member_leads (linked t.graph) t.banned t.targets t.source t.graph.nodes (jb t ok) (jne t ok) ok.below ok.no_target ok.no_banned ps a.each) a.dist)
+      picks second_of ps (member_leads (linked t.graph) t.banned t.targets t.source t.graph.nodes (jb t ok) (jne t ok) ok.below ok.no_target ok.no_banned ps a.each) a.dist
 
   -- the paths have the nodes after the source, and the source once each
   nodes_later : (ps : List (List ℕ)) → AllByRecursion (IsRoute t) ps → nodes_in ps ≡ length (all_later ps) + length ps

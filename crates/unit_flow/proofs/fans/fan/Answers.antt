@@ -3,11 +3,12 @@ use Rattle.tomo_base.specs.Sets.{has}
 use Rattle.unit_flow.specs.Flows.{Routing, task_of, no_paths, IsTask, IsFlow}
 use Rattle.unit_flow.specs.Widening.{Widens, IsStuck}
 use Rattle.unit_flow.specs.declared.flow.Widened.TheVariants.{Stuck}
-use Rattle.unit_flow.proofs.CutOffs.{none_banned, paths_bound, stuck_cut_off}
+use Rattle.unit_flow.proofs.Lists.{has_none}
+use Rattle.unit_flow.proofs.CutOffs.{paths_bound, stuck_cut_off}
 use Rattle.unit_flow.proofs.fans.fan.Goals as goal
 
 pub new-requires-2-clause-no_banned : goal.new-requires-2-clause-no_banned
-new-requires-2-clause-no_banned c = subst (λ z. has z c.args.source ≡ false) (sym c.new.ensures) (none_banned c.args.source)
+new-requires-2-clause-no_banned c = subst (λ z. has z c.args.source ≡ false) (sym c.new.ensures) (has_none c.args.source)
 
 pub returns-in-Stuck : goal.returns-in-Stuck
 returns-in-Stuck c =

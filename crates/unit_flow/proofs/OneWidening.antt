@@ -1,22 +1,23 @@
 -- One widening over plain lists: what it begins with, and that what is read back at its end is a flow of one path more.
-use Rattle.std.proofs.Common.{ℕ, ◌<◌, ◌≤◌, ◌≡◌, Bool, List, [], ◌∷◌, map, length, get_or, All, Vec, sym, ap, subst, ◌∙◌, arith, Option, Some, None}
+use Rattle.std.proofs.Common.{ℕ, ◌<◌, ◌≤◌, ◌≡◌, Bool, true, List, [], ◌∷◌, map, length, get_or, All, Vec, sym, ap, subst, ◌∙◌, arith, inl, inr, Option, Some, None}
 use Rattle.std.specs.Global.{Global}
+use Rattle.std.proofs.lemmas.Bool.{both_ways, eqb-true}
 use Rattle.std.specs.List.{AllByRecursion}
 use Rattle.std.proofs.lemmas.List.{get_or-map, length-map}
-use Rattle.std.proofs.lemmas.List.Elements.{All-from_recursion}
+use Rattle.std.proofs.lemmas.List.Elements.{All-from_recursion, recursion_from_All}
 use Rattle.tomo_base.specs.Network.{linked}
 use Rattle.tomo_base.specs.Search.{mark_of}
 use Rattle.tomo_base.specs.Walks.{NoneTwice}
 use Rattle.unit_flow.specs.declared.arrays.Reached.{Reached}
-use Rattle.unit_flow.specs.Flows.{Task, IsTask, LeadsFrom, IsRoute, IsFlow, IsWider, IsLeastCut, last_of}
+use Rattle.unit_flow.specs.Flows.{Task, IsTask, LeadsFrom, IsRoute, IsFlow, IsWider, IsLeastCut, second_of, last_of}
 use Rattle.unit_flow.specs.Arrays.{put, load_all}
 use Rattle.unit_flow.specs.Steps.{entry_of, node_at, ArcsFor, IsQueue, Followed, Stands, ReadsAll}
 use Rattle.unit_flow.specs.Search.{IsNear, IsDone, IsHit, Reaching}
 use Rattle.unit_flow.proofs.Back.{on_low}
-use Rattle.unit_flow.proofs.Tasks.{jb}
+use Rattle.unit_flow.proofs.Law.{ending}
+use Rattle.unit_flow.proofs.Tasks.{jb, jne, flow_in, wider_out}
 use Rattle.unit_flow.proofs.Writes.{fun_same}
 use Rattle.unit_flow.proofs.Results.{array_of, array_arcs, stuck_cut}
-use Rattle.unit_flow.proofs.Ended.{end_arcs, end_apart, end_stands, end_wider}
 
 -- what the search found: a free target near the node at a place of the queue
 pub record Found (t : Task) (f : ℕ → Option ℕ) (seen : List Bool) (queue : List Reached) (place target : ℕ) : Type 0 where
@@ -96,16 +97,23 @@ module _ (t : Task) (ok : IsTask t) where
           (walk ok (loaded_arcs lent_is)
           (subst (λ z. IsQueue t z lent_queue) (sym (array_is lent_is)) (subst (IsQueue t (array_of t ok ps)) (sym queue_is) found.reaching.queue_is)))) in
           let last_is : entry_of last ≡ put end.walked target (Some (node_at queue place)) = fun_same (entry_of last) (put end.walked target (Some (node_at queue place))) end.moved in
-          let arcs : ArcsFor t (entry_of last) = subst (ArcsFor t) (sym last_is) (end_arcs t ok ps flow seen queue place end.first target end.walked found.reaching found.inside found.near found.hit end.state) in
-          let stands : All (Stands t (entry_of last)) (target ∷ map last_of ps) = subst (λ z. All (Stands t z) (target ∷ map last_of ps)) (sym last_is)
-          (end_stands t ok ps flow seen queue place end.first target end.walked found.reaching found.inside found.near found.hit end.state) in
+          let link : linked t.graph (node_at queue place) target ≡ true = elim found.near as (λ _. linked t.graph (node_at queue place) target ≡ true) [
+            | inl e ↦ absurd (both_ways (t.targets target) (ap t.targets (sym (eqb-true (node_at queue place) target e)) ∙ found.reaching.plain place found.inside) found.hit.1)
+            | inr e ↦ e
+          ] in
+          let e = ending (linked t.graph) t.banned t.targets t.source t.graph.nodes (jb t ok) (jne t ok) ok.below ok.no_target ok.no_banned (flow_in t ok ps flow) end.state link found.hit.1 found.hit.2 found.hit.0 in
+          let arcs : ArcsFor t (entry_of last) = subst (ArcsFor t) (sym last_is) e.arcs in
+          let stands : All (Stands t (entry_of last)) (target ∷ map last_of ps) =
+          All-from_recursion (Stands t (entry_of last)) (target ∷ map last_of ps) (subst (λ z. AllByRecursion (Stands t z) (target ∷ map last_of ps)) (sym last_is) e.stands) in
           subst (λ z. Ends t ps z ends) (sym arr_is) (subst (Ends t ps last) (sym ends_are) (record {
             nodes = nodes;
             arcs = arcs;
-            room = λ v p e. omega (arith, (jb t ok p v (arcs.each v p e).linked).0, nodes);
-            apart = end_apart t ok ps flow seen queue place end.first target end.walked found.reaching found.inside found.near found.hit end.state;
+            room = λ v p h. omega (arith, (jb t ok p v (arcs.each v p h).linked).0, nodes);
+            apart = e.apart;
             stands = stands;
             inside = λ k d l. omega (arith, stands_below (entry_of last) (get_or (target ∷ map last_of ps) k d) arcs (stands k d l), nodes);
-            wider = λ new all. end_wider t ok ps flow seen queue place end.first target end.walked found.reaching found.inside found.near found.hit end.state new
-                (subst (λ z. ReadsAll t z (target ∷ map last_of ps) new) last_is all);
+            wider = λ new all.
+                let starts = subst (λ z. All (λ p. z (second_of p) ≡ Some t.source) new) last_is all.starts in
+                wider_out t ok ps new (e.longer new (flow_in t ok new all.flow)
+                (recursion_from_All (λ p. put end.walked target (Some (node_at queue place)) (second_of p) ≡ Some t.source) new starts) all.ends);
           }))

@@ -15,7 +15,8 @@ use Rattle.unit_flow.specs.Steps.{entry_of, node_at, ArcsFor, IsQueue, Followed,
 use Rattle.unit_flow.specs.Search.{IsNear, IsDone, IsHit, Reaching}
 use Rattle.unit_flow.proofs.Back.{on_low}
 use Rattle.unit_flow.proofs.Law.{ending}
-use Rattle.unit_flow.proofs.Tasks.{jb, jne, flow_in, wider_out}
+use Rattle.unit_flow.proofs.Links.{jb}
+use Rattle.unit_flow.proofs.Tasks.{flow_in, wider_out}
 use Rattle.unit_flow.proofs.Writes.{fun_same}
 use Rattle.unit_flow.proofs.Results.{array_of, array_arcs, stuck_cut}
 
@@ -101,7 +102,7 @@ module _ (t : Task) (ok : IsTask t) where
             | inl e ↦ absurd (both_ways (t.targets target) (ap t.targets (sym (eqb-true (node_at queue place) target e)) ∙ found.reaching.plain place found.inside) found.hit.1)
             | inr e ↦ e
           ] in
-          let e = ending (linked t.graph) t.banned t.targets t.source t.graph.nodes (jb t ok) (jne t ok) ok.below ok.no_target ok.no_banned (flow_in t ok ps flow) end.state link found.hit.1 found.hit.2 found.hit.0 in
+          let e = ending t ok (flow_in t ok ps flow) end.state link found.hit.1 found.hit.2 found.hit.0 in
           let arcs : ArcsFor t (entry_of last) = subst (ArcsFor t) (sym last_is) e.arcs in
           let stands : All (Stands t (entry_of last)) (target ∷ map last_of ps) =
           All-from_recursion (Stands t (entry_of last)) (target ∷ map last_of ps) (subst (λ z. AllByRecursion (Stands t z) (target ∷ map last_of ps)) (sym last_is) e.stands) in

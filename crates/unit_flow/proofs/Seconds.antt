@@ -5,7 +5,7 @@ use Rattle.std.specs.List.{AllByRecursion}
 use Rattle.std.proofs.lemmas.List.{length-map}
 use Rattle.std.proofs.lemmas.Bool.{false≢true}
 use Rattle.std.proofs.lemmas.List.Elements.{recursion_from_All}
-use Rattle.tomo_base.specs.Network.{Network, linked}
+use Rattle.tomo_base.specs.Network.{Network}
 use Rattle.tomo_base.specs.Walks.{NoneTwice}
 use Rattle.simple_path.specs.Pools.{nodes_in}
 use Rattle.unit_flow.specs.Flows.{Task, IsTask, IsRoute, IsFlow, all_later, second_of}
@@ -14,7 +14,8 @@ use Rattle.unit_flow.specs.Kept.{IsKept}
 use Rattle.unit_flow.specs.Search.{asked}
 use Rattle.unit_flow.proofs.Start.{picks}
 use Rattle.unit_flow.proofs.Law.{member_leads}
-use Rattle.unit_flow.proofs.Tasks.{jb, jne, flow_in}
+use Rattle.unit_flow.proofs.Links.{jb}
+use Rattle.unit_flow.proofs.Tasks.{flow_in}
 use Rattle.unit_flow.proofs.Kept.{flow_small, flow_few}
 use Rattle.unit_flow.proofs.OneWidening.{route_at}
 
@@ -35,7 +36,7 @@ module _ (t : Task) (ok : IsTask t) where
   seconds_differ : (ps : List (List ℕ)) → IsFlow t ps → NoneTwice (map second_of ps)
   seconds_differ ps flow =
       let a = flow_in t ok ps flow in
-      picks second_of ps (member_leads (linked t.graph) t.banned t.targets t.source t.graph.nodes (jb t ok) (jne t ok) ok.below ok.no_target ok.no_banned ps a.each) a.dist
+      picks second_of ps (member_leads t ok ps a.each) a.dist
 
   -- the paths have the nodes after the source, and the source once each
   nodes_later : (ps : List (List ℕ)) → AllByRecursion (IsRoute t) ps → nodes_in ps ≡ length (all_later ps) + length ps

@@ -20,7 +20,7 @@ use Rattle.unit_flow.proofs.Load.{all_on}
 use Rattle.unit_flow.proofs.Back.{on_low}
 use Rattle.unit_flow.proofs.Links.{jb}
 use Rattle.unit_flow.proofs.Tasks.{cut_bound}
-use Rattle.unit_flow.proofs.Results.{array_of, array_arcs}
+use Rattle.unit_flow.proofs.Law.{array_of, array_arcs}
 use Rattle.unit_flow.proofs.Marking.{unmarked_past}
 use Rattle.unit_flow.proofs.Writes.{fun_same}
 

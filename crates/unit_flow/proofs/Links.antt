@@ -1,4 +1,4 @@
--- The links of a task's graph join two different nodes of it, in both directions.
+-- The links of the graph of a task join two different nodes of it.
 use Rattle.std.proofs.Common.{ℕ, ◌<◌, ◌≡◌, true, false, eqb, List, [], ◌∷◌, arith, inl, inr, ◌⊎◌}
 use Rattle.std.proofs.lemmas.Bool.{false≢true, or_cases, ne_eqb}
 use Rattle.tomo_base.specs.declared.graph.Link.{Link}

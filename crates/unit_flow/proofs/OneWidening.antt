@@ -14,11 +14,10 @@ use Rattle.unit_flow.specs.Arrays.{put, load_all}
 use Rattle.unit_flow.specs.Steps.{entry_of, node_at, ArcsFor, IsQueue, Followed, Stands, ReadsAll}
 use Rattle.unit_flow.specs.Search.{IsNear, IsDone, IsHit, Reaching}
 use Rattle.unit_flow.proofs.Back.{on_low}
-use Rattle.unit_flow.proofs.Law.{ending}
+use Rattle.unit_flow.proofs.Law.{array_of, array_arcs, ending}
 use Rattle.unit_flow.proofs.Links.{jb}
-use Rattle.unit_flow.proofs.Tasks.{flow_in, wider_out}
 use Rattle.unit_flow.proofs.Writes.{fun_same}
-use Rattle.unit_flow.proofs.Results.{array_of, array_arcs, stuck_cut}
+use Rattle.unit_flow.proofs.Results.{stuck_cut}
 
 -- what the search found: a free target near the node at a place of the queue
 pub record Found (t : Task) (f : ℕ → Option ℕ) (seen : List Bool) (queue : List Reached) (place target : ℕ) : Type 0 where
@@ -102,7 +101,7 @@ module _ (t : Task) (ok : IsTask t) where
             | inl e ↦ absurd (both_ways (t.targets target) (ap t.targets (sym (eqb-true (node_at queue place) target e)) ∙ found.reaching.plain place found.inside) found.hit.1)
             | inr e ↦ e
           ] in
-          let e = ending t ok (flow_in t ok ps flow) end.state link found.hit.1 found.hit.2 found.hit.0 in
+          let e = ending t ok flow end.state link found.hit.1 found.hit.2 found.hit.0 in
           let arcs : ArcsFor t (entry_of last) = subst (ArcsFor t) (sym last_is) e.arcs in
           let stands : All (Stands t (entry_of last)) (target ∷ map last_of ps) =
           All-from_recursion (Stands t (entry_of last)) (target ∷ map last_of ps) (subst (λ z. AllByRecursion (Stands t z) (target ∷ map last_of ps)) (sym last_is) e.stands) in
@@ -115,6 +114,6 @@ module _ (t : Task) (ok : IsTask t) where
             inside = λ k d l. omega (arith, stands_below (entry_of last) (get_or (target ∷ map last_of ps) k d) arcs (stands k d l), nodes);
             wider = λ new all.
                 let starts = subst (λ z. All (λ p. z (second_of p) ≡ Some t.source) new) last_is all.starts in
-                wider_out t ok ps new (e.longer new (flow_in t ok new all.flow)
-                (recursion_from_All (λ p. put end.walked target (Some (node_at queue place)) (second_of p) ≡ Some t.source) new starts) all.ends);
+                e.longer new all.flow
+                (recursion_from_All (λ p. put end.walked target (Some (node_at queue place)) (second_of p) ≡ Some t.source) new starts) all.ends;
           }))

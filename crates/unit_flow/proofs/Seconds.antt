@@ -13,9 +13,8 @@ use Rattle.unit_flow.specs.declared.ask.Ask.{Ask}
 use Rattle.unit_flow.specs.Kept.{IsKept}
 use Rattle.unit_flow.specs.Search.{asked}
 use Rattle.unit_flow.proofs.Start.{picks}
-use Rattle.unit_flow.proofs.Law.{member_leads}
+use Rattle.unit_flow.proofs.Law.{each, member_leads}
 use Rattle.unit_flow.proofs.Links.{jb}
-use Rattle.unit_flow.proofs.Tasks.{flow_in}
 use Rattle.unit_flow.proofs.Kept.{flow_small, flow_few}
 use Rattle.unit_flow.proofs.OneWidening.{route_at}
 
@@ -34,9 +33,7 @@ module _ (t : Task) (ok : IsTask t) where
 
   -- no two paths of a flow have the same
   seconds_differ : (ps : List (List ℕ)) → IsFlow t ps → NoneTwice (map second_of ps)
-  seconds_differ ps flow =
-      let a = flow_in t ok ps flow in
-      picks second_of ps (member_leads t ok ps a.each) a.dist
+  seconds_differ ps flow = picks second_of ps (member_leads t ok ps (each t ok ps flow)) flow.apart.1
 
   -- the paths have the nodes after the source, and the source once each
   nodes_later : (ps : List (List ℕ)) → AllByRecursion (IsRoute t) ps → nodes_in ps ≡ length (all_later ps) + length ps

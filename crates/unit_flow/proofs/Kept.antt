@@ -19,7 +19,7 @@ use Rattle.unit_flow.proofs.Lists.{has_cases, few_below}
 use Rattle.unit_flow.proofs.Load.{all_on}
 use Rattle.unit_flow.proofs.Back.{on_low}
 use Rattle.unit_flow.proofs.Links.{jb}
-use Rattle.unit_flow.proofs.Tasks.{cut_bound}
+use Rattle.unit_flow.proofs.Tasks.{cut_bounds}
 use Rattle.unit_flow.proofs.Law.{array_of, array_arcs}
 use Rattle.unit_flow.proofs.Marking.{unmarked_past}
 use Rattle.unit_flow.proofs.Writes.{fun_same}
@@ -65,7 +65,7 @@ module _ (t : Task) (ok : IsTask t) where
   -- marks of the least set that stops a flow make a set for which the flow is stuck
   pub stuck_by : (ps : List (List ℕ)) (seen : List Bool) (q : List ℕ) → length seen ≡ t.graph.nodes → IsLeastCut t (length ps) (mark_of seen) → ((v : ℕ) → has q v ≡ mark_of seen v) → IsStuck t ps q
   stuck_by ps seen q size cut same = record {
-    most = λ other flow. cut_bound t ok (mark_of seen) (length ps) other cut.cut flow;
+    most = λ other flow. cut_bounds t (mark_of seen) (length ps) other ok cut.cut flow;
     cut = subst (IsLeastCut t (length ps)) (sym (fun_same (has q) (mark_of seen) same)) cut;
     below = All-from_has (λ v. v < t.graph.nodes) q (λ v h. elim (cases_lt v t.graph.nodes) [
       | inl l ↦ l

@@ -5,7 +5,6 @@ use Rattle.std.proofs.Common.{ℕ, zero, suc, ◌+◌, ◌<◌, ◌≤◌, ◌�
 use Rattle.std.specs.List.{filter}
 use Rattle.std.specs.List.Sorted.{IsPermutation}
 use Rattle.std.proofs.lemmas.Bool.{cases_eq, cases_lt, cases_Bool, both_ways, eqb-true, eq-eqb, eqb-false, or_parts, false≢true, false_from_ne_true, lt-ltb, le-ltb}
-use Rattle.std.proofs.lemmas.Option.{none-some}
 use Rattle.std.proofs.lemmas.List.{append-nil, get_or-map, get_or_default, length-map}
 use Rattle.std.proofs.lemmas.List.Elements.{All-push}
 use Rattle.std.proofs.lemmas.List.Quantifiers.{all_pairs_push}
@@ -130,10 +129,6 @@ pub second_at : (p : List ℕ) (d : ℕ) → 2 ≤ length p → get_or p 1 d ≡
 second_at [] d l = absurd (omega arith)
 second_at (a ∷ []) d l = absurd (omega arith)
 second_at (a ∷ b ∷ p) d l = refl
-
--- before the first path no node has an entry
-pub places_none : (ps : List (List ℕ)) (places : List (Option ℕ)) → ((v : ℕ) → entry_of places v ≡ None) → ArePlaces ps 0 places
-places_none ps places bare = record { entered = λ k l. absurd (omega (arith, l)); sound = λ v k e. absurd (none-some k (sym (bare v) ∙ e)) }
 
 -- the second node of one path more
 pub places_more : (ps : List (List ℕ)) (i u : ℕ) (places : List (Option ℕ)) → u < length places → second_of (get_or ps i []) ≡ u → ArePlaces ps i places → ArePlaces ps (i + 1) (set places u (Some i))

@@ -12,7 +12,7 @@ use Rattle.tomo_base.proofs.Links.{linked_below}
 use Rattle.tomo_base.proofs.Ascending.{All-from_has}
 use Rattle.unit_flow.specs.Flows.{Task, Routing, IsTask, IsFlow, IsRoute, task_of, no_paths}
 use Rattle.unit_flow.specs.Order.{AreInOrder}
-use Rattle.unit_flow.proofs.Tasks.{links_differ}
+use Rattle.unit_flow.proofs.Links.{links_differ}
 use Rattle.cross_links.specs.Ways.{freely, beside, with_lists}
 use Rattle.cross_links.specs.Steps.{Begins, CanGrow, HasGrown}
 use Rattle.cross_links.proofs.Members.{has_none, has_first, has_cases, has_not}

@@ -8,7 +8,7 @@ use Rattle.unit_flow.specs.Flows.{Task, IsTask, task_of, no_paths, IsFlow, ways_
 use Rattle.unit_flow.specs.Widening.{IsStuck}
 use Rattle.unit_flow.specs.Fan.{IsLeastCutOff}
 use Rattle.unit_flow.proofs.Lists.{has_none}
-use Rattle.unit_flow.proofs.Tasks.{cut_bound}
+use Rattle.unit_flow.proofs.Tasks.{cut_bounds}
 
 -- a set is left whole by an empty one
 whole : (a b : Bool) → b ≡ false → (a && not b) ≡ a
@@ -33,7 +33,7 @@ module _ (g : Network) (v : ℕ) (m : List ℕ) (ok : IsTask (task_of (no_paths 
 
   -- as many nodes cut v off as there are paths
   pub paths_bound : (ps : List (List ℕ)) → IsFlow t ps → (p : ℕ → Bool) (k : ℕ) → IsCutOff g (has m) v k p → length ps ≤ k
-  paths_bound ps flow p k c = cut_bound t ok p k ps (cut_in k p c) flow
+  paths_bound ps flow p k c = cut_bounds t p k ps ok (cut_in k p c) flow
 
   -- where the flow is stuck, the set is the least that so many nodes cut off
   pub stuck_cut_off : (ps : List (List ℕ)) (q : List ℕ) → IsFlow t ps → IsStuck t ps q → IsLeastCutOff g (has m) v (length ps) (has q)

@@ -1,25 +1,26 @@
--- What the fields of a flow keep when a path is taken into it, when it has one path more, and when it is stuck.
-use Rattle.std.proofs.Common.{ℕ, ◌+◌, ◌<◌, ◌≤◌, ◌≡◌, Bool, true, List, [], ◌∷◌, map, length, set, take, Vec, refl, sym, ap, ap₂, subst, ◌∙◌, arith, inl, inr, None, length-append, length-take-le, length-set}
+-- What the fields of a flow keep when a path is taken into it, and what they say of it when it is stuck or has one path more.
+use Rattle.std.proofs.Common.{ℕ, ◌+◌, ◌<◌, ◌≤◌, ◌≡◌, Bool, true, List, [], ◌∷◌, map, length, get_or, set, take, Vec, refl, sym, ap, ap₂, subst, ◌∙◌, arith, inl, inr, None, length-append, length-take-le, length-set}
 use Rattle.std.specs.Global.{Global}
 use Rattle.std.specs.List.{AllByRecursion}
 use Rattle.std.proofs.lemmas.Bool.{cases_lt, both_ways, false≢true}
 use Rattle.std.proofs.lemmas.List.{length-map}
 use Rattle.std.proofs.lemmas.List.Elements.{recursion_from_All}
-use Rattle.std.proofs.Math.Seq.{take-length}
 use Rattle.tomo_base.specs.Network.{Network, linked}
 use Rattle.tomo_base.specs.Search.{mark_of}
 use Rattle.tomo_base.specs.Sets.{has}
 use Rattle.tomo_base.proofs.Ascending.{All-from_has}
 use Rattle.unit_flow.specs.declared.ask.Ask.{Ask}
-use Rattle.unit_flow.specs.Flows.{Task, IsTask, IsRoute, IsFlow, IsWider, IsLeastCut, later_of, all_later}
-use Rattle.unit_flow.specs.Widening.{IsStuck}
-use Rattle.unit_flow.specs.Kept.{IsKept}
+use Rattle.unit_flow.specs.Flows.{Task, IsTask, Routing, task_of, IsRoute, IsFlow, IsLeastCut, later_of, all_later}
+use Rattle.unit_flow.specs.declared.widening.Outcome.{Outcome}
+use Rattle.unit_flow.specs.Widening.{Comes, IsStuck}
+use Rattle.unit_flow.specs.Kept.{HasRoom, IsKept}
 use Rattle.unit_flow.specs.Search.{asked, IsAsked}
 use Rattle.unit_flow.proofs.Lists.{has_cases, few_below}
 use Rattle.unit_flow.proofs.Load.{all_on}
 use Rattle.unit_flow.proofs.Back.{on_low}
-use Rattle.unit_flow.proofs.Tasks.{jb, cut_bound}
-use Rattle.unit_flow.proofs.Results.{array_of, array_arcs}
+use Rattle.unit_flow.proofs.Links.{jb}
+use Rattle.unit_flow.proofs.Tasks.{cut_bounds}
+use Rattle.unit_flow.proofs.Law.{array_of, array_arcs}
 use Rattle.unit_flow.proofs.Marking.{unmarked_past}
 use Rattle.unit_flow.proofs.Writes.{fun_same}
 
@@ -57,14 +58,14 @@ module _ (t : Task) (ok : IsTask t) where
   flow_few ps flow = omega (arith, paths_few ps (recursion_from_All (IsRoute t) ps flow.routes), flow_small ps flow)
 
   -- a path has no more nodes than the graph
-  pub path_short : (p : List ℕ) → IsFlow t (p ∷ []) → length p ≤ t.graph.nodes
+  path_short : (p : List ℕ) → IsFlow t (p ∷ []) → length p ≤ t.graph.nodes
   path_short [] flow = omega arith
   path_short (a ∷ p) flow = omega (arith, flow_small ((a ∷ p) ∷ []) flow, length-append p [])
 
   -- marks of the least set that stops a flow make a set for which the flow is stuck
   pub stuck_by : (ps : List (List ℕ)) (seen : List Bool) (q : List ℕ) → length seen ≡ t.graph.nodes → IsLeastCut t (length ps) (mark_of seen) → ((v : ℕ) → has q v ≡ mark_of seen v) → IsStuck t ps q
   stuck_by ps seen q size cut same = record {
-    most = λ other flow. cut_bound t ok (mark_of seen) (length ps) other cut.cut flow;
+    most = λ other flow. cut_bounds t (mark_of seen) (length ps) other ok cut.cut flow;
     cut = subst (IsLeastCut t (length ps)) (sym (fun_same (has q) (mark_of seen) same)) cut;
     below = All-from_has (λ v. v < t.graph.nodes) q (λ v h. elim (cases_lt v t.graph.nodes) [
       | inl l ↦ l
@@ -94,29 +95,36 @@ kept_new g a targets banned room is h k long = record {
   room = λ _. record { some = omega arith; long = λ d. long };
 }
 
-module _ (g : Network) (a : Ask) (targets banned : List ℕ) (count : ℕ) (paths : List (Vec ℕ Global)) (k : IsKept g a targets banned count paths) where
-  -- a flow without paths counts none
-  pub none_counted : map (λ p. p.items) (take count paths) ≡ [] → count ≡ 0
-  none_counted e = sym (length-first count paths k.within) ∙ ap (λ z. length z) e
+module _ {g : Network} {a : Ask} {targets banned : List ℕ} {count : ℕ} {paths : List (Vec ℕ Global)} (k : IsKept g a targets banned count paths) where
+  module _ {r : Routing} (view : record { graph = g; source = a.source; targets = targets; banned = banned; paths = map (λ p. p.items) (take count paths) } ≡ r) where
+    -- what is asked for is the task of the flow as contracts see it
+    pub kept_task : asked g a ≡ task_of r
+    kept_task = same_task g a targets banned k.marks_targets k.marks_banned ∙ ap task_of view
 
-  -- the first list takes a path
-  pub kept_path : (p : Vec ℕ Global) → count ≡ 0 → IsFlow (asked g a) (p.items ∷ []) → IsKept g a targets banned 1 (set paths 0 p)
-  kept_path p none flow = record {
-    is_asked = k.is_asked;
-    marks_targets = k.marks_targets;
-    marks_banned = k.marks_banned;
-    within = omega (arith, length-set paths 0 p, (k.room none).some);
-    flow = subst (λ z. IsFlow (asked g a) (map (λ q. q.items) z)) (sym (first_put paths p (k.room none).some)) flow;
-    room = λ e. absurd (omega (arith, e));
-  }
+    -- a flow without paths counts none
+    none_counted : r.paths ≡ [] → count ≡ 0
+    none_counted none = sym (length-first count paths k.within) ∙ ap (λ (x : Routing). length x.paths) view ∙ ap (λ z. length z) none
 
-  -- the lists are those of a flow of one path more
-  pub kept_wider : (new : List (Vec ℕ Global)) → IsWider (asked g a) (map (λ p. p.items) (take count paths)) (map (λ p. p.items) new) → IsKept g a targets banned (length new) new
-  kept_wider new w = record {
-    is_asked = k.is_asked;
-    marks_targets = k.marks_targets;
-    marks_banned = k.marks_banned;
-    within = omega arith;
-    flow = subst (λ z. IsFlow (asked g a) (map (λ p. p.items) z)) (sym (take-length new)) w.flow;
-    room = λ e. absurd (omega (arith, e, w.one_more, length-map new (λ (p : Vec ℕ Global). p.items)));
-  }
+    -- a path that it may take fits into the first list
+    pub path_fits : r.paths ≡ [] → (p : List ℕ) (d : Vec ℕ Global) → IsFlow (task_of r) (p ∷ []) → length p ≤ length (get_or paths 0 d).items
+    path_fits none p d flow = omega (arith, path_short (asked g a) k.is_asked.task p (subst (λ z. IsFlow z (p ∷ [])) (sym kept_task) flow), (k.room (none_counted none)).long d)
+
+    -- the first list takes it
+    pub kept_path : r.paths ≡ [] → (p : Vec ℕ Global) → IsFlow (task_of r) (p.items ∷ []) → IsKept g a targets banned 1 (set paths 0 p)
+    kept_path none p flow =
+        let room : HasRoom g.nodes paths = k.room (none_counted none) in
+        record {
+          is_asked = k.is_asked;
+          marks_targets = k.marks_targets;
+          marks_banned = k.marks_banned;
+          within = omega (arith, length-set paths 0 p, room.some);
+          flow = subst (λ z. IsFlow (asked g a) (map (λ q. q.items) z)) (sym (first_put paths p room.some)) (subst (λ z. IsFlow z (p.items ∷ [])) (sym kept_task) flow);
+          room = λ e. absurd (omega (arith, e));
+        }
+
+    -- what the widening of the lists that were lent comes to, said of the flow as contracts see it
+    pub came : {h : Network} {lent : List (Vec ℕ Global)} {o new : Outcome} → r.graph ≡ h → lent ≡ paths → o ≡ new → Comes (asked h a) (map (λ p. p.items) (take count lent)) o → Comes (task_of r) r.paths new
+    came {h = h} {lent = lent} {o = o} graph lent_is is come =
+        let same : asked h a ≡ task_of r = ap (λ z. asked z a) (sym (ap (λ (x : Routing). x.graph) view ∙ graph)) ∙ kept_task in
+        let old : map (λ p. p.items) (take count lent) ≡ r.paths = ap (λ z. map (λ p. p.items) (take count z)) lent_is ∙ ap (λ (x : Routing). x.paths) view in
+        subst (Comes (task_of r) r.paths) is (subst (λ z. Comes z r.paths o) same (subst (λ z. Comes (asked h a) z o) old come))

@@ -1,22 +1,40 @@
 -- One widening over plain lists: what it begins with, and that what is read back at its end is a flow of one path more.
-use Rattle.std.proofs.Common.{ℕ, ◌<◌, ◌≤◌, ◌≡◌, Bool, List, [], ◌∷◌, map, length, get_or, All, Vec, sym, ap, subst, ◌∙◌, arith, Option, Some, None}
+use Rattle.std.proofs.Common.{ℕ, ◌<◌, ◌≤◌, ◌≡◌, Bool, true, List, [], ◌∷◌, map, length, get_or, All, Vec, sym, ap, subst, ◌∙◌, arith, inl, inr, Option, Some, None}
 use Rattle.std.specs.Global.{Global}
+use Rattle.std.proofs.lemmas.Bool.{both_ways, eqb-true}
 use Rattle.std.specs.List.{AllByRecursion}
 use Rattle.std.proofs.lemmas.List.{get_or-map, length-map}
-use Rattle.std.proofs.lemmas.List.Elements.{All-from_recursion}
+use Rattle.std.proofs.lemmas.List.Elements.{All-from_recursion, recursion_from_All}
 use Rattle.tomo_base.specs.Network.{linked}
 use Rattle.tomo_base.specs.Search.{mark_of}
 use Rattle.tomo_base.specs.Walks.{NoneTwice}
 use Rattle.unit_flow.specs.declared.arrays.Reached.{Reached}
-use Rattle.unit_flow.specs.Flows.{Task, IsTask, LeadsFrom, IsRoute, IsFlow, IsWider, IsLeastCut, last_of}
+use Rattle.unit_flow.specs.Flows.{Task, IsTask, LeadsFrom, IsRoute, IsFlow, IsWider, IsLeastCut, second_of, last_of}
 use Rattle.unit_flow.specs.Arrays.{put, load_all}
 use Rattle.unit_flow.specs.Steps.{entry_of, node_at, ArcsFor, IsQueue, Followed, Stands, ReadsAll}
 use Rattle.unit_flow.specs.Search.{IsNear, IsDone, IsHit, Reaching}
 use Rattle.unit_flow.proofs.Back.{on_low}
-use Rattle.unit_flow.proofs.Tasks.{jb}
+use Rattle.unit_flow.proofs.Law.{array_of, array_arcs, ending}
+use Rattle.unit_flow.proofs.Links.{jb}
 use Rattle.unit_flow.proofs.Writes.{fun_same}
-use Rattle.unit_flow.proofs.Results.{array_of, array_arcs, stuck_cut}
-use Rattle.unit_flow.proofs.Ended.{end_arcs, end_apart, end_stands, end_wider}
+use Rattle.unit_flow.proofs.Results.{stuck_cut}
+
+-- what the search found: a free target near the node at a place of the queue
+pub record Found (t : Task) (f : ℕ → Option ℕ) (seen : List Bool) (queue : List Reached) (place target : ℕ) : Type 0 where
+  pub reaching : Reaching t f seen queue
+  pub inside : place < length queue
+  pub near : IsNear t (node_at queue place) target
+  pub hit : IsHit t f target
+
+-- an array and ends: what is read back from them is a flow of one path more
+pub record Ends (t : Task) (old : List (List ℕ)) (arr : List (Option ℕ)) (ends : List ℕ) : Type 0 where
+  pub nodes : length arr ≡ t.graph.nodes
+  pub arcs : ArcsFor t (entry_of arr)
+  pub room : (v p : ℕ) → entry_of arr v ≡ Some p → p < length arr
+  pub apart : NoneTwice ends
+  pub stands : All (Stands t (entry_of arr)) ends
+  pub inside : All (λ e. e < length arr) ends
+  pub wider : (new : List (List ℕ)) → ReadsAll t (entry_of arr) ends new → IsWider t old new
 
 module _ (t : Task) (ok : IsTask t) where
   -- a way goes over nodes
@@ -52,77 +70,50 @@ module _ (t : Task) (ok : IsTask t) where
     paths_whole k d l = route_whole (get_or paths k d).items (route_at k d l)
 
     module _ (before : List (Option ℕ)) (loaded : (v : ℕ) → entry_of before v ≡ load_all t.source (λ _. None) (map (λ p. p.items) paths) v) where
-      -- the array that was loaded, as a function
-      pub array_is : entry_of before ≡ array_of t ok (map (λ p. p.items) paths)
-      array_is = fun_same (entry_of before) (array_of t ok (map (λ p. p.items) paths)) loaded
+      -- the array that was loaded, as a function of the list that is read
+      array_is : {read : List (Option ℕ)} → read ≡ before → entry_of read ≡ array_of t ok (map (λ p. p.items) paths)
+      array_is same = ap entry_of same ∙ fun_same (entry_of before) (array_of t ok (map (λ p. p.items) paths)) loaded
 
       -- its entries are the nodes before
-      pub loaded_arcs : ArcsFor t (entry_of before)
-      loaded_arcs = subst (ArcsFor t) (sym array_is) (array_arcs t ok (map (λ p. p.items) paths) flow)
+      pub loaded_arcs : {read : List (Option ℕ)} → read ≡ before → ArcsFor t (entry_of read)
+      loaded_arcs same = subst (ArcsFor t) (sym (array_is same)) (array_arcs t ok (map (λ p. p.items) paths) flow)
 
       -- a search that found nothing has marked the least set that stops the flow
-      pub reached_cut : (seen : List Bool) (queue : List Reached) → Reaching t (entry_of before) seen queue → ((k : ℕ) → k < length queue → IsDone t (entry_of before) seen (node_at queue k)) → IsLeastCut t (length (map (λ p. p.items) paths)) (mark_of seen)
-      reached_cut seen queue r done = stuck_cut t ok (map (λ p. p.items) paths) flow seen queue (subst (λ z. Reaching t z seen queue) array_is r) (subst (λ z. (k : ℕ) → k < length queue → IsDone t z seen (node_at queue k)) array_is done)
+      pub reached_cut : {read : List (Option ℕ)} {seen : List Bool} {queue : List Reached} → read ≡ before → Reaching t (entry_of read) seen queue
+          → ((k : ℕ) → k < length queue → IsDone t (entry_of read) seen (node_at queue k)) → IsLeastCut t (length (map (λ p. p.items) paths)) (mark_of seen)
+      reached_cut {seen = seen} {queue = queue} same r done = stuck_cut t ok (map (λ p. p.items) paths) flow seen queue (subst (λ z. Reaching t z seen queue) (array_is same) r)
+          (subst (λ z. (k : ℕ) → k < length queue → IsDone t z seen (node_at queue k)) (array_is same) done)
 
-      -- what the search found, read at the lists that the code lent to it: a free target near the node at a place of the queue
-      pub record Found (read : List (Option ℕ)) (seen : List Bool) (queue : List Reached) (place target : ℕ) : Type 0 where
-        pub reaching : Reaching t (entry_of read) seen queue
-        pub inside : place < length queue
-        pub near : IsNear t (node_at queue place) target
-        pub hit : IsHit t (entry_of read) target
-
-      module _ (read lent last : List (Option ℕ)) (seen : List Bool) (queue lent_queue : List Reached) (place target : ℕ) (read_is : read ≡ before) (lent_is : lent ≡ before) (queue_is : lent_queue ≡ queue)
-          (search : Found read seen queue place target) (walk : IsTask t → ArcsFor t (entry_of lent) → IsQueue t (entry_of lent) lent_queue → Followed t (entry_of lent) (entry_of last) lent_queue place target) where
-        -- the paths
-        abbrev ps : List (List ℕ)
-        ps = map (λ p. p.items) paths
-
-        -- the array that was read, as a function
-        same : entry_of read ≡ array_of t ok ps
-        same = ap entry_of read_is ∙ array_is
-
-        -- and the one that the walk began with
-        began : entry_of lent ≡ array_of t ok ps
-        began = ap entry_of lent_is ∙ array_is
-
-        found : Reaching t (array_of t ok ps) seen queue
-        found = subst (λ z. Reaching t z seen queue) same search.reaching
-
-        free : IsHit t (array_of t ok ps) target
-        free = subst (λ z. IsHit t z target) same search.hit
-
-        end : Followed t (array_of t ok ps) (entry_of last) queue place target
-        end = subst (λ z. Followed t (array_of t ok ps) (entry_of last) z place target) queue_is
-            (subst (λ z. Followed t z (entry_of last) lent_queue place target) began
-            (walk ok (subst (ArcsFor t) (sym began) (array_arcs t ok ps flow))
-            (subst (λ z. IsQueue t z lent_queue) (sym began) (subst (IsQueue t (array_of t ok ps)) (sym queue_is) found.queue_is))))
-
-        -- the array after the last move, as a function
-        last_is : entry_of last ≡ put end.walked target (Some (node_at queue place))
-        last_is = fun_same (entry_of last) (put end.walked target (Some (node_at queue place))) end.moved
-
-        -- its entries are the nodes before
-        pub last_arcs : ArcsFor t (entry_of last)
-        last_arcs = subst (ArcsFor t) (sym last_is) (end_arcs t ok ps flow seen queue place end.first target end.walked found search.inside search.near free end.state)
-
-        -- they are nodes
-        pub last_room : (v p : ℕ) → entry_of last v ≡ Some p → p < t.graph.nodes
-        last_room v p e = (jb t ok p v (last_arcs.each v p e).linked).0
-
-        -- the ends all differ
-        pub last_apart : NoneTwice (target ∷ map last_of ps)
-        last_apart = end_apart t ok ps flow seen queue place end.first target end.walked found search.inside search.near free end.state
-
-        -- they are targets on paths
-        pub last_stands : All (Stands t (entry_of last)) (target ∷ map last_of ps)
-        last_stands = subst (λ z. All (Stands t z) (target ∷ map last_of ps)) (sym last_is)
-            (end_stands t ok ps flow seen queue place end.first target end.walked found search.inside search.near free end.state)
-
-        -- so they are nodes
-        pub last_inside : All (λ e. e < t.graph.nodes) (target ∷ map last_of ps)
-        last_inside k d l = stands_below (entry_of last) (get_or (target ∷ map last_of ps) k d) last_arcs (last_stands k d l)
-
-        -- the paths that are read back from them are a flow of one path more
-        pub last_wider : (new : List (List ℕ)) → ReadsAll t (entry_of last) (target ∷ map last_of ps) new → IsWider t ps new
-        last_wider new all = end_wider t ok ps flow seen queue place end.first target end.walked found search.inside search.near free end.state new
-            (subst (λ z. ReadsAll t z (target ∷ map last_of ps) new) last_is all)
+      -- the array after the walk to what the search found, and the ends of the new paths, as they are lent
+      pub last_ends : {read lent last arr : List (Option ℕ)} {seen : List Bool} {queue lent_queue : List Reached} {place target : ℕ} {ends : List ℕ} → read ≡ before → lent ≡ before → lent_queue ≡ queue → Found t (entry_of read) seen queue place target
+          → (IsTask t → ArcsFor t (entry_of lent) → IsQueue t (entry_of lent) lent_queue → Followed t (entry_of lent) (entry_of last) lent_queue place target)
+          → arr ≡ last → length last ≡ t.graph.nodes → ends ≡ target ∷ map last_of (map (λ p. p.items) paths) → Ends t (map (λ p. p.items) paths) arr ends
+      last_ends {lent = lent} {last = last} {seen = seen} {queue = queue} {lent_queue = lent_queue} {place = place} {target = target} {ends = ends} read_is lent_is queue_is search walk arr_is nodes ends_are =
+          let ps = map (λ p. p.items) paths in
+          let found : Found t (array_of t ok ps) seen queue place target = subst (λ z. Found t z seen queue place target) (array_is read_is) search in
+          let end : Followed t (array_of t ok ps) (entry_of last) queue place target =
+          subst (λ z. Followed t (array_of t ok ps) (entry_of last) z place target) queue_is
+          (subst (λ z. Followed t z (entry_of last) lent_queue place target) (array_is lent_is)
+          (walk ok (loaded_arcs lent_is)
+          (subst (λ z. IsQueue t z lent_queue) (sym (array_is lent_is)) (subst (IsQueue t (array_of t ok ps)) (sym queue_is) found.reaching.queue_is)))) in
+          let last_is : entry_of last ≡ put end.walked target (Some (node_at queue place)) = fun_same (entry_of last) (put end.walked target (Some (node_at queue place))) end.moved in
+          let link : linked t.graph (node_at queue place) target ≡ true = elim found.near as (λ _. linked t.graph (node_at queue place) target ≡ true) [
+            | inl e ↦ absurd (both_ways (t.targets target) (ap t.targets (sym (eqb-true (node_at queue place) target e)) ∙ found.reaching.plain place found.inside) found.hit.1)
+            | inr e ↦ e
+          ] in
+          let e = ending t ok flow end.state link found.hit.1 found.hit.2 found.hit.0 in
+          let arcs : ArcsFor t (entry_of last) = subst (ArcsFor t) (sym last_is) e.arcs in
+          let stands : All (Stands t (entry_of last)) (target ∷ map last_of ps) =
+          All-from_recursion (Stands t (entry_of last)) (target ∷ map last_of ps) (subst (λ z. AllByRecursion (Stands t z) (target ∷ map last_of ps)) (sym last_is) e.stands) in
+          subst (λ z. Ends t ps z ends) (sym arr_is) (subst (Ends t ps last) (sym ends_are) (record {
+            nodes = nodes;
+            arcs = arcs;
+            room = λ v p h. omega (arith, (jb t ok p v (arcs.each v p h).linked).0, nodes);
+            apart = e.apart;
+            stands = stands;
+            inside = λ k d l. omega (arith, stands_below (entry_of last) (get_or (target ∷ map last_of ps) k d) arcs (stands k d l), nodes);
+            wider = λ new all.
+                let starts = subst (λ z. All (λ p. z (second_of p) ≡ Some t.source) new) last_is all.starts in
+                e.longer new all.flow
+                (recursion_from_All (λ p. put end.walked target (Some (node_at queue place)) (second_of p) ≡ Some t.source) new starts) all.ends;
+          }))

@@ -24,10 +24,6 @@ pub record Scanned (t : Task) (f : ℕ → Option ℕ) (seen₀ seen : List Bool
 pub read_node : (q : List Reached) (k : ℕ) (r : Reached) → k < length q → r ≡ get_or q k r → r.node ≡ node_at q k
 read_node q k r l e = ap (λ (z : Reached). z.node) (e ∙ get_or_default q k r (record { node = 0; from = 0; via = 0 }) l)
 
--- after the look at u itself
-pub scan_start : (t : Task) (f : ℕ → Option ℕ) (seen₀ seen : List Bool) (queue₀ queue : List Reached) (u : ℕ) (hops : List Hop) → Looked t f u false seen₀ seen queue₀ queue → Scanned t f seen₀ seen queue₀ queue u hops 0
-scan_start t f seen₀ seen queue₀ queue u hops l = record { reaching = l.reaching; grows = l.grows; own = l.settled refl; each = λ k d lt. absurd (omega arith) }
-
 -- after the look at one neighbour more
 pub scan_step : (t : Task) (f : ℕ → Option ℕ) (seen₀ seen seen' : List Bool) (queue₀ queue queue' : List Reached) (u : ℕ) (hops : List Hop) (i : ℕ) (e : Hop) → i < length hops
     → Scanned t f seen₀ seen queue₀ queue u hops i → Looked t f (let h : Hop = get_or hops i e in h.node) false seen seen' queue queue' → Scanned t f seen₀ seen' queue₀ queue' u hops (i + 1)

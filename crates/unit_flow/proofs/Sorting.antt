@@ -1,11 +1,11 @@
 -- The paths are taken one after the other in the order of their second nodes.
+use Rattle.std.specs.Global.{Global}
 use Rattle.std.specs.Option.{is_some}
-use Rattle.std.proofs.Common.{ℕ, zero, suc, ◌+◌, ◌<◌, ◌≤◌, ◌≡◌, true, false, not, nat_lt, ◌==◌, eqb, List, [], ◌∷◌, ◌++◌, map, length, get_or, set, sum_by, All, AllPairs, Option, Some, None, refl, sym, ap, subst, ◌∙◌, arith, inl, inr, length-append}
+use Rattle.std.proofs.Common.{ℕ, zero, suc, ◌+◌, ◌<◌, ◌≤◌, ◌≡◌, true, false, not, nat_lt, ◌==◌, eqb, List, [], ◌∷◌, ◌++◌, map, length, get_or, set, sum_by, All, AllPairs, Vec, Option, Some, None, refl, sym, ap, subst, ◌∙◌, arith, inl, inr, length-append}
 use Rattle.std.specs.List.{filter}
 use Rattle.std.specs.List.Sorted.{IsPermutation}
 use Rattle.std.proofs.lemmas.Bool.{cases_eq, cases_lt, cases_Bool, both_ways, eqb-true, eq-eqb, eqb-false, or_parts, false≢true, false_from_ne_true, lt-ltb, le-ltb}
-use Rattle.std.proofs.lemmas.Option.{none-some}
-use Rattle.std.proofs.lemmas.List.{append-nil, get_or-map, length-map}
+use Rattle.std.proofs.lemmas.List.{append-nil, get_or-map, get_or_default, length-map}
 use Rattle.std.proofs.lemmas.List.Elements.{All-push}
 use Rattle.std.proofs.lemmas.List.Quantifiers.{all_pairs_push}
 use Rattle.std.proofs.lemmas.List.Sorted.{IsPermutation-refl, IsPermutation-cons, IsPermutation-trans, IsPermutation-middle, IsPermutation-pop_more, length_permutation, sum_by-IsPermutation}
@@ -86,7 +86,7 @@ sorted_none ps = record {
 }
 
 -- no path has the second node v
-pub sorted_skip : (ps pool : List (List ℕ)) (v : ℕ) → has (map second_of ps) v ≡ false → Sorted ps pool v → Sorted ps pool (v + 1)
+sorted_skip : (ps pool : List (List ℕ)) (v : ℕ) → has (map second_of ps) v ≡ false → Sorted ps pool v → Sorted ps pool (v + 1)
 sorted_skip ps pool v h s = record {
   order = subst (λ z. IsPermutation ps (pool ++ z)) (from_skip v ps h) s.order;
   ascending = s.ascending;
@@ -94,7 +94,7 @@ sorted_skip ps pool v h s = record {
 }
 
 -- the path that has it is added
-pub sorted_take : (ps pool : List (List ℕ)) (v i : ℕ) (d : List ℕ) → NoneTwice (map second_of ps) → i < length ps → second_of (get_or ps i d) ≡ v → Sorted ps pool v → Sorted ps (pool ++ get_or ps i d ∷ []) (v + 1)
+sorted_take : (ps pool : List (List ℕ)) (v i : ℕ) (d : List ℕ) → NoneTwice (map second_of ps) → i < length ps → second_of (get_or ps i d) ≡ v → Sorted ps pool v → Sorted ps (pool ++ get_or ps i d ∷ []) (v + 1)
 sorted_take ps pool v i d once l e s = record {
   order = IsPermutation-pop_more ps pool (from v ps) (from (v + 1) ps) (get_or ps i d) s.order (from_take v ps i d once l e);
   ascending = all_pairs_push (λ p q. second_of p < second_of q) pool (get_or ps i d) s.ascending (λ k c lk. omega (arith, s.below k c lk, e));
@@ -111,7 +111,7 @@ nodes_sum [] = refl
 nodes_sum (p ∷ ps) = ap (λ n. length p + n) (nodes_sum ps) ∙ sym (sum_by-cons (λ p. length p) p ps)
 
 -- a pool that is to take a path holds fewer paths, and with it no more node numbers, than the flow
-pub pool_room : (ps pool : List (List ℕ)) (v i : ℕ) (d : List ℕ) → NoneTwice (map second_of ps) → i < length ps → second_of (get_or ps i d) ≡ v → Sorted ps pool v →
+pool_room : (ps pool : List (List ℕ)) (v i : ℕ) (d : List ℕ) → NoneTwice (map second_of ps) → i < length ps → second_of (get_or ps i d) ≡ v → Sorted ps pool v →
     (length pool + 1 ≤ length ps) × (nodes_in pool + length (get_or ps i d) ≤ nodes_in ps)
 pool_room ps pool v i d once l e s =
     let x = get_or ps i d in
@@ -129,10 +129,6 @@ pub second_at : (p : List ℕ) (d : ℕ) → 2 ≤ length p → get_or p 1 d ≡
 second_at [] d l = absurd (omega arith)
 second_at (a ∷ []) d l = absurd (omega arith)
 second_at (a ∷ b ∷ p) d l = refl
-
--- before the first path no node has an entry
-pub places_none : (ps : List (List ℕ)) (places : List (Option ℕ)) → ((v : ℕ) → entry_of places v ≡ None) → ArePlaces ps 0 places
-places_none ps places bare = record { entered = λ k l. absurd (omega (arith, l)); sound = λ v k e. absurd (none-some k (sym (bare v) ∙ e)) }
 
 -- the second node of one path more
 pub places_more : (ps : List (List ℕ)) (i u : ℕ) (places : List (Option ℕ)) → u < length places → second_of (get_or ps i []) ≡ u → ArePlaces ps i places → ArePlaces ps (i + 1) (set places u (Some i))
@@ -152,9 +148,37 @@ places_more ps i u places room e s = record {
 }
 
 -- a node without an entry is no second node
-pub places_bare : (ps : List (List ℕ)) (places : List (Option ℕ)) (v : ℕ) → ArePlaces ps (length ps) places → entry_of places v ≡ None → has (map second_of ps) v ≡ false
+places_bare : (ps : List (List ℕ)) (places : List (Option ℕ)) (v : ℕ) → ArePlaces ps (length ps) places → entry_of places v ≡ None → has (map second_of ps) v ≡ false
 places_bare ps places v s e = false_from_ne_true (has (map second_of ps) v) (λ h.
     let at = place_in (map second_of ps) v h in
     let inside : at.0 < length ps = let e : length (map second_of ps) ≡ length ps = length-map ps second_of in omega (arith, e, at.1) in
     let is : second_of (get_or ps at.0 []) ≡ v = sym (get_or-map second_of ps at.0 [] 0 inside) ∙ at.2 in
     false≢true (sym (ap is_some e) ∙ ap (λ z. on (entry_of places) z) (sym is) ∙ s.entered at.0 inside))
+
+-- ---- a node whose entry is read
+module _ (paths : List (Vec ℕ Global)) {places : List (Option ℕ)} {v n : ℕ} {o : Option ℕ} (at : ArePlaces (map (λ p. p.items) paths) (length paths) places) (low : v < n) (size : length places ≡ n) (read : o ≡ get_or places v o) where
+  -- what was read is the entry
+  entry : entry_of places v ≡ o
+  entry = sym (read ∙ get_or_default places v o None (omega (arith, low, size)))
+
+  -- the place that it holds is one of a path with this second node
+  pub placed : {i : ℕ} → o ≡ Some i → (i < length paths) × (second_of (get_or (map (λ p. p.items) paths) i []) ≡ v)
+  placed {i = i} is = at.sound v i (entry ∙ is)
+
+  -- where there is none, the paths of the pool are those below the next node too
+  pub skipped : {pool : List (List ℕ)} → o ≡ None → Sorted (map (λ p. p.items) paths) pool v → Sorted (map (λ p. p.items) paths) pool (v + 1)
+  skipped {pool = pool} is s =
+      let ps = map (λ p. p.items) paths in
+      sorted_skip ps pool v (places_bare ps places v (subst (λ z. ArePlaces ps z places) (sym (length-map paths (λ p. p.items))) at) (entry ∙ is)) s
+
+  -- the pool has room for the path there, and takes it in order
+  pub taken : {pool : List (List ℕ)} {i : ℕ} {p : Vec ℕ Global} → NoneTwice (map second_of (map (λ q. q.items) paths)) → o ≡ Some i → p ≡ get_or paths i p → Sorted (map (λ q. q.items) paths) pool v
+      → (length pool + 1 ≤ length paths) × (nodes_in pool + length p.items ≤ nodes_in (map (λ q. q.items) paths)) × Sorted (map (λ q. q.items) paths) (pool ++ p.items ∷ []) (v + 1)
+  taken {pool = pool} {i = i} {p = p} once is path s =
+      let ps = map (λ q. q.items) paths in
+      let here = placed is in
+      let long : length ps ≡ length paths = length-map paths (λ q. q.items) in
+      let below : i < length ps = omega (arith, here.0, long) in
+      let same : get_or ps i [] ≡ p.items = get_or-map (λ q. q.items) paths i p [] here.0 ∙ sym (ap (λ q. q.items) path) in
+      let room = pool_room ps pool v i [] once below here.1 s in
+      (omega (arith, room.0, long), subst (λ z. nodes_in pool + length z ≤ nodes_in ps) same room.1, subst (λ z. Sorted ps (pool ++ z ∷ []) (v + 1)) same (sorted_take ps pool v i [] once below here.1 s))

@@ -3,7 +3,7 @@ use Rattle.tomo_base.specs.declared.graph.Hop.{Hop}
 use Rattle.tomo_base.specs.Network.{linked}
 use Rattle.unit_flow.specs.Steps.{entry_of, node_at}
 use Rattle.unit_flow.specs.Search.{asked, Looked, IsDone}
-use Rattle.unit_flow.proofs.Tasks.{jb}
+use Rattle.unit_flow.proofs.Links.{jb}
 use Rattle.unit_flow.proofs.Reaches.{Grows-trans}
 use Rattle.unit_flow.proofs.Scans.{Scanned, read_node, scan_step, scan_end, hop_near}
 use Rattle.unit_flow.proofs.search.scan.Goals as goal

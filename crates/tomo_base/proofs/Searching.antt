@@ -1,15 +1,15 @@
 -- A search ranks the nodes that it reaches, and reaches the free nodes to which walks over free nodes lead.
-use Rattle.std.proofs.Common.{◌≡◌, ◌≢◌, ℕ, zero, suc, ◌+◌, ◌<◌, ◌≤◌, Bool, true, false, List, [], ◌∷◌, ◌++◌, length, get_or, set, take, replicate, All, AllPairs, IsTrue, refl, sym, ap, ap₂, ◌∙◌, inl, inr, arith, subst, length-set, get_or-set_same, get_or-set_other}
-use Rattle.std.proofs.lemmas.Bool.{cases_eq, cases_lt, lt-ltb, le-ltb}
+use Rattle.std.proofs.Common.{◌≡◌, ◌≢◌, ℕ, zero, suc, ◌+◌, ◌<◌, ◌≤◌, Bool, true, false, ◌&&◌, nat_lt, List, [], ◌∷◌, ◌++◌, length, get_or, set, take, replicate, All, AllPairs, IsTrue, refl, sym, ap, ap₂, ◌∙◌, inl, inr, arith, subst, length-set, get_or-set_same, get_or-set_other}
+use Rattle.std.proofs.lemmas.Bool.{cases_eq, cases_lt, lt-ltb, le-ltb, ltb-true, and_parts, and_from}
 use Rattle.std.proofs.lemmas.List.{length_push, get_or_append_left, get_or_push, length-replicate, get_or-replicate, get_or_default, get_or-take, length-take-le, take_more}
 use Rattle.tomo_base.specs.declared.graph.Hop.{Hop}
 use Rattle.tomo_base.specs.Network.{Network, linked, any_joins, IsGraph}
 use Rattle.tomo_base.specs.Table.{JoinsAt, AreHops}
 use Rattle.tomo_base.specs.Walks.{StepsFrom, end_of, Reaches, everything, IsConnected}
 use Rattle.tomo_base.specs.Search.{mark_of, unseen_of, entry_at, unranked, AreRanked, IsSearch}
-use Rattle.tomo_base.proofs.Links.{linked_below}
+use Rattle.tomo_base.proofs.Links.{linked_below, linked_comm}
 use Rattle.tomo_base.proofs.Rows.{any_joins_gives, any_joins-from}
-use Rattle.tomo_base.proofs.Walks.{Reaches-trans, Reaches-step, Reaches_comm}
+use Rattle.tomo_base.proofs.Walks.{Reaches-after, Reaches-within, Reaches_comm, connected_by}
 
 -- a new mark leaves one node fewer without
 pub unseen-set : (seen : List Bool) (u : ℕ) → u < length seen → mark_of seen u ≡ false → unseen_of (set seen u true) + 1 ≡ unseen_of seen
@@ -292,18 +292,59 @@ planted g free seeds order parent rank same ranks parents roots = record {
   closed = λ k w l. absurd (omega arith);
 }
 
--- ---- the whole search from one node, where all nodes are free
+-- ---- what a search from one node has reached
 
--- a walk leads to each node that the search has reached
-search_reaches : (g : Network) (free : List Bool) (head x : ℕ) (order parent rank : List ℕ) → IsGraph g → IsSearch g free (x ∷ []) head order parent rank → (b k : ℕ) → k < b → k < length order → Reaches g everything x (entry_at order k)
-search_reaches g free head x order parent rank graph s zero k lt l = absurd (omega arith)
-search_reaches g free head x order parent rank graph s (suc b) zero lt l = ([], tt, tt, sym (s.begins 0 (omega arith)).1)
-search_reaches g free head x order parent rank graph s (suc b) (suc k) lt l =
-    let step = s.steps (suc k) (omega arith) l in
-    let p = entry_at parent (entry_at order (suc k)) in
-    let node : p < g.nodes = (linked_below g.nodes g.links p (entry_at order (suc k)) graph step.1).0 in
-    let at = s.ranks.placed p node (omega (arith, step.0, l, few_ranked g.nodes free order rank s.ranks)) in
-    Reaches-step g everything x p (entry_at order (suc k)) (subst (Reaches g everything x) at.1 (search_reaches g free head x order parent rank graph s b (entry_at rank p) (omega (arith, step.0, lt)) at.0)) step.1 refl
+-- the nodes with a rank below this one
+abbrev pub ranked_below : ℕ → List ℕ → ℕ → ℕ → Bool
+ranked_below n rank r v = nat_lt v n && nat_lt (entry_at rank v) r
+
+module _ (g : Network) (free : List Bool) (x head : ℕ) (order parent rank : List ℕ) (graph : IsGraph g) (s : IsSearch g free (x ∷ []) head order parent rank) where
+  -- a node with a rank stands at its place, and is free
+  pub placed_free : (v r : ℕ) → r ≤ g.nodes → IsTrue (ranked_below g.nodes rank r v) → (v < g.nodes) × (entry_at rank v < r) × (entry_at rank v < length order) × (entry_at order (entry_at rank v) ≡ v) × (mark_of free v ≡ true)
+  placed_free v r few t =
+      let parts = and_parts (nat_lt v g.nodes) (nat_lt (entry_at rank v) r) t in
+      let node : v < g.nodes = ltb-true v g.nodes parts.0 in
+      let low : entry_at rank v < r = ltb-true (entry_at rank v) r parts.1 in
+      let at = s.ranks.placed v node (omega (arith, low, few)) in
+      (node, low, at.0, at.1, subst (λ u. mark_of free u ≡ true) at.1 (s.ranks.allowed (entry_at rank v) at.0))
+
+  -- the parent of a node at a place after the first
+  pub parent_at : (k : ℕ) → 1 ≤ k → k < length order → let p = entry_at parent (entry_at order k) in (p < g.nodes) × (entry_at rank p < k) × IsTrue (linked g p (entry_at order k)) × (entry_at order (entry_at rank p) ≡ p)
+  parent_at k some l =
+      let step = s.steps k some l in
+      let p = entry_at parent (entry_at order k) in
+      let node : p < g.nodes = (linked_below g.nodes g.links p (entry_at order k) graph step.1).0 in
+      let at = s.ranks.placed p node (omega (arith, step.0, l, few_ranked g.nodes free order rank s.ranks)) in
+      (node, step.0, step.1, at.1)
+
+  -- the way up to the first node goes over nodes of lower rank
+  pub way_up : (b k : ℕ) → k < b → k < length order → Reaches g (ranked_below g.nodes rank k) (entry_at order k) x
+  way_up zero k lt l = absurd (omega (arith, lt))
+  way_up (suc b) zero lt l = ([], tt, tt, (s.begins 0 (omega arith)).1)
+  way_up (suc b) (suc k) lt l =
+      let p = entry_at parent (entry_at order (suc k)) in
+      let up = parent_at (suc k) (omega arith) l in
+      let node : p < g.nodes = up.0 in
+      let low : entry_at rank p < suc k = up.1 in
+      let rest : Reaches g (ranked_below g.nodes rank (entry_at rank p)) p x =
+      subst (λ z. Reaches g (ranked_below g.nodes rank (entry_at rank p)) z x) up.3 (way_up b (entry_at rank p) (omega (arith, low, lt)) (omega (arith, low, l))) in
+      Reaches-after g (ranked_below g.nodes rank (suc k)) (entry_at order (suc k)) p x (linked_comm g p (entry_at order (suc k)) up.2)
+      (and_from (nat_lt p g.nodes) (nat_lt (entry_at rank p) (suc k)) (lt-ltb p g.nodes node) (lt-ltb (entry_at rank p) (suc k) low))
+      (Reaches-within g (ranked_below g.nodes rank (entry_at rank p)) (ranked_below g.nodes rank (suc k)) p x (λ v t.
+      let parts = and_parts (nat_lt v g.nodes) (nat_lt (entry_at rank v) (entry_at rank p)) t in
+      let lower : entry_at rank v < entry_at rank p = ltb-true (entry_at rank v) (entry_at rank p) parts.1 in
+      and_from (nat_lt v g.nodes) (nat_lt (entry_at rank v) (suc k)) parts.0 (lt-ltb (entry_at rank v) (suc k) (omega (arith, lower, low)))) rest)
+
+  -- a walk over free nodes leads from the first node to each that has a rank
+  pub search_reaches : (v : ℕ) → v < g.nodes → entry_at rank v < g.nodes → Reaches g (mark_of free) x v
+  search_reaches v node ranked =
+      let at = s.ranks.placed v node ranked in
+      let is_free : mark_of free v ≡ true = subst (λ u. mark_of free u ≡ true) at.1 (s.ranks.allowed (entry_at rank v) at.0) in
+      let up : Reaches g (ranked_below g.nodes rank (entry_at rank v)) v x =
+      subst (λ z. Reaches g (ranked_below g.nodes rank (entry_at rank v)) z x) at.1 (way_up (entry_at rank v + 1) (entry_at rank v) (omega arith) at.0) in
+      Reaches_comm g (mark_of free) v x is_free (Reaches-within g (ranked_below g.nodes rank (entry_at rank v)) (mark_of free) v x (λ u t. (placed_free u (entry_at rank v) (omega (arith, ranked)) t).4) up)
+
+-- ---- the whole search from one node, where all nodes are free
 
 -- the search has reached what a walk leads to
 walk_reached : (g : Network) (free : List Bool) (seeds order parent rank : List ℕ) → IsGraph g → IsSearch g free seeds (length order) order parent rank → ((v : ℕ) → v < g.nodes → mark_of free v ≡ true)
@@ -316,9 +357,7 @@ walk_reached g free seeds order parent rank graph s all a (b ∷ p) node ranked 
 
 -- a node with a rank is reached
 pub ranked_reached : (g : Network) (free : List Bool) (head x v : ℕ) (order parent rank : List ℕ) → IsGraph g → IsSearch g free (x ∷ []) head order parent rank → v < g.nodes → entry_at rank v < g.nodes → Reaches g everything x v
-ranked_reached g free head x v order parent rank graph s node ranked =
-    let at = s.ranks.placed v node ranked in
-    subst (Reaches g everything x) at.1 (search_reaches g free head x order parent rank graph s (entry_at rank v + 1) (entry_at rank v) (omega arith) at.0)
+ranked_reached g free head x v order parent rank graph s node ranked = Reaches-within g (mark_of free) everything x v (λ u t. refl) (search_reaches g free x head order parent rank graph s v node ranked)
 
 -- no walk leads to a node without
 pub unranked_apart : (g : Network) (free : List Bool) (x v : ℕ) (order parent rank : List ℕ) → IsGraph g → IsSearch g free (x ∷ []) (length order) order parent rank → ((w : ℕ) → w < g.nodes → mark_of free w ≡ true)
@@ -334,4 +373,4 @@ unranked_apart g free x v order parent rank graph s all bare walk =
 
 -- where walks lead from one node to all, the graph is connected
 pub connected_from : (g : Network) (x : ℕ) → ((v : ℕ) → v < g.nodes → Reaches g everything x v) → IsConnected g
-connected_from g x all = λ a b la lb ta tb. Reaches-trans g everything a x b (Reaches_comm g everything x a refl (all a la)) (all b lb)
+connected_from g x all = connected_by g everything x refl (λ v l t. all v l)

@@ -1,0 +1,2 @@
+pub mod HubLinks
+pub mod Telling

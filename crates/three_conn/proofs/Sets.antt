@@ -1,0 +1,32 @@
+-- Numbers of a set other than three.
+use Rattle.std.proofs.Common.{◌≡◌, ◌≢◌, ℕ, ◌+◌, ◌<◌, ◌≤◌, Bool, true, false, not, ◌&&◌, ◌||◌, ◌==◌, List, [], ◌∷◌, length, refl, sym, arith, inl, inr}
+use Rattle.std.proofs.lemmas.Bool.{cases_Bool, cases_lt, both_ways, and_parts, and_from, or_left, or_right, not_from_false, not-true, eqb-true, eq-eqb, ne_eqb}
+use Rattle.tomo_base.specs.Sets.{one_if, count, has, nothing}
+use Rattle.tomo_base.proofs.Counts.{find, count-mono, count-none, count-one, count_pairs}
+use Rattle.tomo_base.proofs.Members.{count_has-le}
+
+-- a set with more numbers than a list has one that does not stand there
+pub one_beside : (n : ℕ) (w : ℕ → Bool) (xs : List ℕ) → length xs < count n w → (z : ℕ) × (z < n) × (w z ≡ true) × (has xs z ≡ false)
+one_beside n w xs more = elim (find n (λ z. w z && not (has xs z))) [
+  | inl r ↦ let parts = and_parts (w r.0) (not (has xs r.0)) r.2 in (r.0, r.1, parts.0, not-true (has xs r.0) parts.1)
+  | inr none ↦
+      let few : count n w ≤ count n (has xs) = count-mono n w (has xs) (λ v l t. elim (cases_Bool (has xs v)) [
+        | inl h ↦ h
+        | inr f ↦ absurd (both_ways (w v && not (has xs v)) (none v l) (and_from (w v) (not (has xs v)) t (not_from_false (has xs v) f)))
+      ]) in
+      absurd (omega (arith, few, more, count_has-le n xs))
+]
+
+-- a set of four numbers has one other than three
+pub one_beside_three : (n : ℕ) (w : ℕ → Bool) (a b c : ℕ) → 4 ≤ count n w → (z : ℕ) × (z < n) × (w z ≡ true) × (z ≢ a) × (z ≢ b) × (z ≢ c)
+unfolding has
+one_beside_three n w a b c four =
+    let r = one_beside n w (a ∷ b ∷ c ∷ []) (omega (arith, four)) in
+    let off : (e : ℕ) → (r.0 ≡ e → has (a ∷ b ∷ c ∷ []) r.0 ≡ true) → r.0 ≢ e = λ e there same. both_ways (has (a ∷ b ∷ c ∷ []) r.0) r.3 (there same) in (
+      r.0,
+      r.1,
+      r.2,
+      off a (λ e. or_left (a == r.0) ((b == r.0) || ((c == r.0) || false)) (eq-eqb a r.0 (sym e))),
+      off b (λ e. or_right (a == r.0) ((b == r.0) || ((c == r.0) || false)) (or_left (b == r.0) ((c == r.0) || false) (eq-eqb b r.0 (sym e)))),
+      off c (λ e. or_right (a == r.0) ((b == r.0) || ((c == r.0) || false)) (or_right (b == r.0) ((c == r.0) || false) (or_left (c == r.0) false (eq-eqb c r.0 (sym e))))),
+    )

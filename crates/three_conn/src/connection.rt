@@ -1,0 +1,56 @@
+// Whether a graph is three-connected.
+ghost use Rattle.std.specs.Prelude.{◌≡◌, ◌<◌, ◌≤◌, ◌||◌, ◌==◌, ℕ, All, length, IfOk};
+ghost use Rattle.tomo_base.specs.Sets.{has};
+ghost use Rattle.three_conn.specs.Answers.{IsConn};
+
+use crate::known::{Parting, begin};
+use crate::probing::probe;
+use std::alloc::Global;
+use tomo_base::{Graph, NoMemory, NodeSet};
+
+/// Whether a graph is three-connected.
+#[derive(Drop)]
+pub enum Conn {
+    /// It is.
+    Yes,
+    /// It has fewer than four nodes.
+    Few,
+    /// At most two nodes, without which the graph is not connected.
+    Cut(NodeSet),
+}
+
+/// Tells whether a graph is three-connected: `Few` exactly where it has fewer than four nodes, `Yes` exactly where it is, and else `Cut`
+/// with at most two nodes without which it is not connected. Nodes that no two others part from node 0 are gathered one by one, each where
+/// three ways lead to those gathered; then each node is tried together with node 0. At most three searches a node, each linear in nodes and
+/// links.
+pub fn three_connected(alloc: Global, g: &Graph) -> Result<Conn, NoMemory>
+    ensures { IfOk result (IsConn g.now) }
+{
+    let n = g.nodes();
+    if n < 4 {
+        return Ok(Conn::Few);
+    }
+    let nodes = vec![in alloc; true; n as usize]?;
+    let mut known = begin(alloc, g, &nodes, 0)?;
+    match probe(alloc, g, &nodes, &mut known)? {
+        None => Ok(Conn::Yes),
+        Some(parting) => Ok(Conn::Cut(pair(alloc, n, parting.c, parting.d)?)),
+    }
+}
+
+// The set of two numbers, as far as they are below n.
+fn pair(alloc: Global, n: u32, c: u32, d: u32) -> Result<NodeSet, NoMemory>
+    requires few { n ≤ 10000 }
+    ensures size { IfOk result (λ s. length s ≤ 2) }
+    ensures below { IfOk result (λ s. All (λ v. v < n) s) }
+    ensures nodes { IfOk result (λ s. (v : ℕ) → v < n → has s v ≡ ((v == c) || (v == d))) }
+{
+    let mut set = NodeSet::new(alloc);
+    if c < n {
+        set.insert(c)?;
+    }
+    if d < n {
+        set.insert(d)?;
+    }
+    Ok(set)
+}

@@ -1,0 +1,99 @@
+// One node more that no two others part from the root.
+ghost use Rattle.std.specs.Prelude.{◌≡◌, ◌<◌, ◌≤◌, ◌≢◌, ℕ, Bool, true, length, IfOk, IfSome, IfNone};
+ghost use Rattle.tomo_base.specs.Sets.{Within};
+ghost use Rattle.tomo_base.specs.Search.{mark_of};
+ghost use Rattle.three_conn.specs.Trees.{IsGate};
+ghost use Rattle.three_conn.specs.Held.{IsKnown, IsParting, IsStep};
+
+use crate::gates::{Gate, first_gate};
+use crate::known::{Known, Parting, Step};
+use crate::marks::rest;
+use crate::meeting::meet;
+use std::alloc::Global;
+use tomo_base::{Graph, NoMemory, sweep};
+
+// A step from a free node with a gate: two more gates, to other nodes, give a node that may be held, where the ways from the three meet.
+fn step_at(
+    alloc: Global,
+    g: &Graph,
+    nodes: &[bool],
+    free: &[bool],
+    first: Gate,
+) -> Result<Step, NoMemory>
+    requires marks { length nodes.now ≡ g.now.nodes }
+    requires free { length free.now ≡ g.now.nodes }
+    requires inner { (first.inner < g.now.nodes) × (mark_of free.now first.inner ≡ true) }
+    requires gate { (c : ℕ) × (d : ℕ) × IsGate g.now (mark_of nodes.now) (mark_of free.now) first.inner c d first.outer }
+    ensures { IfOk result (IsStep g.now (mark_of nodes.now) (mark_of free.now)) }
+{
+    let _count = g.nodes();
+    let (x, a) = (first.inner, first.outer);
+    let found = sweep(alloc, g, free, &[x])?;
+    let Some(second) = first_gate(g, nodes, free, &found.order, a, a) else {
+        return Ok(Step::Parted(Parting {
+            side: found.order,
+            c: a,
+            d: a,
+        }));
+    };
+    let b = second.outer;
+    let Some(third) = first_gate(g, nodes, free, &found.order, a, b) else {
+        return Ok(Step::Parted(Parting {
+            side: found.order,
+            c: a,
+            d: b,
+        }));
+    };
+    Ok(Step::More(meet(&found, second.inner, third.inner)))
+}
+
+// A step: the free nodes that are connected to x have no gate, or a step goes from the first that has one.
+fn step(alloc: Global, g: &Graph, nodes: &[bool], free: &[bool], x: u32) -> Result<Step, NoMemory>
+    requires marks { length nodes.now ≡ g.now.nodes }
+    requires free { length free.now ≡ g.now.nodes }
+    requires node { (x < g.now.nodes) × (mark_of free.now x ≡ true) }
+    ensures { IfOk result (IsStep g.now (mark_of nodes.now) (mark_of free.now)) }
+{
+    let n = g.nodes();
+    let found = sweep(alloc, g, free, &[x])?;
+    match first_gate(g, nodes, free, &found.order, n, n) {
+        Some(gate) => step_at(alloc, g, nodes, free, gate),
+        None => Ok(Step::Parted(Parting {
+            side: found.order,
+            c: n,
+            d: n,
+        })),
+    }
+}
+
+/// Lets the held nodes grow until all nodes of the set are held, or two nodes part the set.
+pub fn grow(
+    alloc: Global,
+    g: &Graph,
+    nodes: &[bool],
+    known: &mut Known,
+) -> Result<Option<Parting>, NoMemory>
+    requires marks { length nodes.now ≡ g.now.nodes }
+    requires known { IsKnown g.now (mark_of nodes.now) known.old }
+    ensures known { IsKnown g.now (mark_of nodes.now) known.new }
+    ensures root { known.new.root ≡ known.old.root }
+    ensures whole { IfOk result (λ o. IfNone o (Within (mark_of nodes.now) (mark_of known.new.held.items))) }
+    ensures parting { IfOk result (λ o. IfSome o (IsParting g.now (mark_of nodes.now) known.new.root (mark_of known.new.held.items))) }
+{
+    let mut free = rest(alloc, nodes, &known.held)?;
+    let mut x = 0;
+    while x < g.nodes() {
+        if free[x as usize] {
+            match step(alloc, g, nodes, &free, x)? {
+                Step::More(u) => {
+                    known.held[u as usize] = true;
+                    free[u as usize] = false;
+                }
+                Step::Parted(p) => return Ok(Some(p)),
+            }
+        } else {
+            x += 1;
+        }
+    }
+    Ok(None)
+}

@@ -1,0 +1,16 @@
+//! Whether a graph stays connected without any two nodes, and if not, which nodes part it.
+#![tactic(auto)]
+
+mod connection;
+mod gates;
+mod growing;
+mod known;
+mod marks;
+mod meeting;
+mod probing;
+#[cfg(test)]
+mod tests;
+
+pub use connection::{Conn, three_connected};
+pub use known::{Known, Parting, begin};
+pub use probing::probe;

@@ -1,4 +1,5 @@
 pub mod Pools
+pub mod Regions
 pub mod Paths
 pub mod Along
 pub mod Short

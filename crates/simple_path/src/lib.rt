@@ -4,6 +4,7 @@
 mod monitor_path;
 mod path_pool;
 mod recipe;
+mod span;
 mod sums;
 #[cfg(test)]
 mod tests;

@@ -2,6 +2,7 @@
 ghost use Rattle.std.specs.Prelude.{◌≡◌, ◌<◌, ◌≤◌, ◌+◌, ◌^◌, ◌++◌, [], ◌∷◌, length, take, IfOk, OnOk, OnErr, slice_index_or};
 ghost use Rattle.simple_path.specs.Pools.{nodes_in};
 
+use crate::span::Span;
 use std::alloc::Global;
 use std::marker::Model;
 use tomo_base::NoMemory;
@@ -9,19 +10,21 @@ use tomo_base::NoMemory;
 /// A list of paths, each a list of node numbers. Paths are numbered from 0 in the order in which they were added.
 #[derive(Drop)]
 pub struct PathPool {
-    alloc: Global,
-    paths: Vec<Vec<u32>>,
+    // the nodes of all paths, one path after the other
+    nodes: Vec<u32>,
+    // where each path stands there
+    spans: Vec<Span>,
 }
 
 impl Model for PathPool {
-    ghost use Rattle.std.specs.Prelude.{ℕ, List, map, vec_len, ◌<◌, ◌^◌};
-    ghost use Rattle.simple_path.specs.Pools.{nodes_in};
+    ghost use Rattle.std.specs.Prelude.{ℕ, List};
+    ghost use Rattle.simple_path.specs.Region.{paths_of, IsRegion};
 
     ghost Value = { List (List ℕ) };
 
-    ghost view = { λ p. map (λ path. path.items) p.paths.items };
+    ghost view = { λ p. paths_of p.nodes.items p.spans.items };
 
-    ghost invariant = { λ p. (vec_len p.paths < 2 ^ 31) × (nodes_in (map (λ path. path.items) p.paths.items) < 2 ^ 31) };
+    ghost invariant = { λ p. IsRegion p.nodes.items p.spans.items };
 }
 
 impl PathPool {
@@ -30,8 +33,8 @@ impl PathPool {
         ensures { result ≡ [] }
     {
         PathPool {
-            alloc,
-            paths: Vec::new(alloc),
+            nodes: Vec::new(alloc),
+            spans: Vec::new(alloc),
         }
     }
 
@@ -43,8 +46,14 @@ impl PathPool {
         ensures number { IfOk result (λ i. i ≡ length self.old) }
         ensures err { OnErr result (self.new ≡ self.old) }
     {
-        let number = self.paths.len() as u32;
-        self.paths.push(path.to_vec(self.alloc)?)?;
+        let number = self.spans.len() as u32;
+        let start = self.nodes.len() as u32;
+        self.spans.reserve(1)?;
+        self.nodes.extend_from_slice(path)?;
+        self.spans.push(Span {
+            start,
+            end: self.nodes.len() as u32,
+        })?;
         Ok(number)
     }
 
@@ -54,7 +63,7 @@ impl PathPool {
         ensures few { result < 2 ^ 31 }
         ensures few_nodes { nodes_in self.now < 2 ^ 31 }
     {
-        self.paths.len() as u32
+        self.spans.len() as u32
     }
 
     /// The path with a number.
@@ -62,7 +71,8 @@ impl PathPool {
         requires { i < length self.now }
         ensures { result.now ≡ slice_index_or self.now i [] }
     {
-        &self.paths[i as usize]
+        let span = self.spans[i as usize];
+        &self.nodes[span.start as usize..span.end as usize]
     }
 
     /// Keeps the first paths, as many as `len`. It takes no memory.
@@ -70,6 +80,12 @@ impl PathPool {
         requires { len ≤ length self.old }
         ensures { self.new ≡ take len self.old }
     {
-        self.paths.truncate(len as usize);
+        let end = if len == 0 {
+            0
+        } else {
+            self.spans[len as usize - 1].end
+        };
+        self.spans.truncate(len as usize);
+        self.nodes.truncate(end as usize);
     }
 }

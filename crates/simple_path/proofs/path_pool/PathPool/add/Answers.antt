@@ -1,12 +1,23 @@
-use Rattle.std.proofs.Common.{Vec, ℕ, arith}
-use Rattle.std.specs.Global.{Global}
-use Rattle.std.proofs.lemmas.List.{length-map}
-use Rattle.simple_path.proofs.Pools.{nodes_in-push}
+use Rattle.std.proofs.Common.{◌≡◌, ◌<◌, ◌+◌, ◌^◌, ◌∙◌, ◌++◌, length, arith, ap, sym}
+use Rattle.simple_path.proofs.Regions.{length-paths, nodes_all, region_more, paths_more}
 use Rattle.simple_path.proofs.path_pool.PathPool.add.Goals as goal
 
 pub invariant_of-self-2 : goal.invariant_of-self-2
 invariant_of-self-2 c =
-    let more = nodes_in-push (λ (p : Vec ℕ Global). p.items) c.self.inside.paths.items c.in_ok-to_vec.field-0 in
-    let room = rw (← c.self.view_is) at c.requires.nodes in
-    let few = rw length-map at (rw (← c.self.view_is) at c.requires.paths) in
-    (omega (arith, few, c.in_ok-push.ensures.len, c.self.inside.paths.ok.0), rw c.in_ok-push.ensures.items (omega (arith, more, room, c.in_ok-to_vec.ensures.len)))
+    let nodes = c.self.inside.nodes.items in
+    let spans = c.self.inside.spans.items in
+    let paths = rw length-paths at (rw (← c.self.view_is) at c.requires.paths) in
+    let room = rw (nodes_all nodes spans c.self.invariant) at (rw (← c.self.view_is) at c.requires.nodes) in
+    let begins : c.len-start.result ≡ length nodes = c.len-start.ensures ∙ c.self.inside.nodes.ok.0 in
+    let ends : c.len.result ≡ length (nodes ++ c.args.path.now) = c.len.ensures ∙ (c.extend_from_slice.new.self.ok.0 ∙ ap (λ xs. length xs) c.in_ok-extend_from_slice.ensures.items) in
+    rw (c.in_ok-push.ensures.items, c.in_ok-extend_from_slice.ensures.items, c.in_ok-reserve.ensures.items)
+    (region_more nodes c.args.path.now spans _ c.self.invariant begins ends paths room)
+
+pub returns-clause-ok : goal.returns-clause-ok
+returns-clause-ok c =
+    let nodes = c.self.inside.nodes.items in
+    let spans = c.self.inside.spans.items in
+    let begins : c.len-start.result ≡ length nodes = c.len-start.ensures ∙ c.self.inside.nodes.ok.0 in
+    let ends : c.len.result ≡ length (nodes ++ c.args.path.now) = c.len.ensures ∙ (c.extend_from_slice.new.self.ok.0 ∙ ap (λ xs. length xs) c.in_ok-extend_from_slice.ensures.items) in
+    rw (← c.self.view_is, c.in_ok-push.ensures.items, c.in_ok-extend_from_slice.ensures.items, c.in_ok-reserve.ensures.items)
+    (paths_more nodes c.args.path.now spans _ c.self.invariant begins ends)

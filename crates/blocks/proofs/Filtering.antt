@@ -1,0 +1,109 @@
+-- Lists of nodes that are kept by a test, marks on nodes, and ascending lists of nodes.
+use Rattle.std.proofs.Common.{◌≡◌, ◌≢◌, ℕ, zero, suc, ◌+◌, ◌<◌, ◌≤◌, ◌⊎◌, Bool, true, false, not, ◌&&◌, ◌||◌, ◌==◌, cond, List, [], ◌∷◌, ◌++◌, length, get_or, set, take, All, IsTrue, refl, sym, ap, ◌∙◌, inl, inr, arith, subst, get_or-set_same, get_or-set_other, replicate}
+use Rattle.std.specs.List.{filter}
+use Rattle.std.specs.List.Sorted.{IsStrictlyIncreasing}
+use Rattle.std.proofs.lemmas.Bool.{cases_eq, cases_lt, cases_Bool, or_cases, or_left, or_right, and_parts, and_from, both_ways, eqb-true, eq-eqb, ne_eqb, true≢false, false_from_ne_true, and_right}
+use Rattle.std.proofs.lemmas.List.{take_more, append-nil, length-replicate, get_or-replicate, get_or_past}
+use Rattle.std.proofs.lemmas.List.Elements.{filter-append}
+use Rattle.std.proofs.lemmas.List.Kept.{IsStrictlyIncreasing-filter}
+use Rattle.tomo_base.specs.Sets.{has, without}
+use Rattle.tomo_base.specs.Search.{mark_of}
+use Rattle.tomo_base.specs.SetLists.{IsSetBelow}
+use Rattle.tomo_base.proofs.Members.{has-append}
+use Rattle.tomo_base.proofs.Ascending.{All-has, All-from_has, has-at}
+
+-- one number more that passes the test
+pub filter_more : (p : ℕ → Bool) (xs kept : List ℕ) (i d x : ℕ) → i < length xs → x ≡ get_or xs i d → p x ≡ true → kept ≡ filter p (take i xs) → kept ++ x ∷ [] ≡ filter p (take (i + 1) xs)
+filter_more p xs kept i d x l same passes before =
+    rw (before, take_more xs i d l, filter-append p (take i xs) (get_or xs i d ∷ []), sym same) (rw passes refl)
+
+-- one that does not pass
+pub filter_past : (p : ℕ → Bool) (xs kept : List ℕ) (i d x : ℕ) → i < length xs → x ≡ get_or xs i d → p x ≡ false → kept ≡ filter p (take i xs) → kept ≡ filter p (take (i + 1) xs)
+filter_past p xs kept i d x l same fails before =
+    rw (before, take_more xs i d l, filter-append p (take i xs) (get_or xs i d ∷ []), sym same) (rw fails (sym (append-nil (filter p (take i xs)))))
+
+-- what is kept is what passes
+pub has-filter : (p : ℕ → Bool) (xs : List ℕ) (v : ℕ) → has (filter p xs) v ≡ (has xs v && p v)
+unfolding has
+has-filter p [] v = refl
+has-filter p (x ∷ xs) v = elim (cases_Bool (p x)) [
+  | inl e ↦ rw (e, has-filter p xs v) (elim (cases_Bool (x == v)) [
+    | inl same ↦ rw (same, sym (ap p (eqb-true x v same)) ∙ e) refl
+    | inr other ↦ rw other refl
+  ])
+  | inr e ↦ rw (e, has-filter p xs v) (elim (cases_Bool (x == v)) [
+    | inl same ↦ rw (same, sym (ap p (eqb-true x v same)) ∙ e) (out (has xs v))
+    | inr other ↦ rw other refl
+  ])
+]
+  where
+    out : (b : Bool) → (b && false) ≡ (true && false)
+    out b = and_right b false refl
+
+-- it is a set below n
+pub IsSetBelow-filter : (n : ℕ) (p : ℕ → Bool) (xs : List ℕ) → IsSetBelow n xs → IsSetBelow n (filter p xs)
+IsSetBelow-filter n p xs is = record {
+  ascending = IsStrictlyIncreasing-filter p xs is.ascending;
+  below = All-from_has (λ v. v < n) (filter p xs) (λ v h. All-has (λ v. v < n) xs is.below v (and_parts (has xs v) (p v) (sym (has-filter p xs v) ∙ h)).0);
+}
+
+-- a list with two different numbers has not one alone
+pub not_alone : (xs : List ℕ) (v w : ℕ) → has xs v ≡ true → has xs w ≡ true → v ≢ w → length xs ≢ 1
+unfolding has
+not_alone [] v w hv hw ne one = absurd (omega arith)
+not_alone (x ∷ []) v w hv hw ne one = ne (only v hv ∙ sym (only w hw))
+  where
+    only : (u : ℕ) → ((x == u) || false) ≡ true → u ≡ x
+    only u h = elim (or_cases (x == u) false h) [ inl e ↦ sym (eqb-true x u e) | inr e ↦ absurd (true≢false (sym e)) ]
+not_alone (x ∷ y ∷ xs) v w hv hw ne one = absurd (omega arith)
+
+-- an ascending list with a number and not alone has another
+pub another : (xs : List ℕ) (w : ℕ) → IsStrictlyIncreasing xs → has xs w ≡ true → length xs ≢ 1 → (v : ℕ) × (has xs v ≡ true) × (v ≢ w)
+unfolding has
+another [] w up h one = absurd (true≢false (sym h))
+another (x ∷ []) w up h one = absurd (one refl)
+another (x ∷ y ∷ xs) w up h one = elim (cases_eq x w) [
+  | inr ne ↦ (x, or_left (x == x) ((y == x) || has xs x) (eq-eqb x x refl), ne)
+  | inl same ↦ (let rises : x < y = up 0 (omega arith) in
+      (y, or_right (x == y) ((y == y) || has xs y) (or_left (y == y) (has xs y) (eq-eqb y y refl)), λ e. omega (arith, rises, same, e)))
+]
+
+-- no marks
+pub no_marks : (n w : ℕ) → mark_of (replicate n false) w ≡ has [] w
+unfolding has
+no_marks n w = elim (cases_lt w n) [ inl l ↦ get_or-replicate n w false false l | inr ge ↦ get_or_past (replicate n false) w false (omega (arith, ge, length-replicate n false)) ]
+
+-- marks with the node at the next place of a list
+pub marks_more : (n : ℕ) (xs : List ℕ) (marks : List Bool) (i d x w : ℕ) → i < length xs → x ≡ get_or xs i d → x < length marks
+    → mark_of marks w ≡ has (take i xs) w → mark_of (set marks x true) w ≡ has (take (i + 1) xs) w
+unfolding has
+marks_more n xs marks i d x w l same room before =
+    rw (take_more xs i d l, has-append (take i xs) (get_or xs i d ∷ []) w, sym same) (elim (cases_eq w x) [
+      | inl e ↦ rw (e, get_or-set_same marks x true false room, eq-eqb x x refl) (sym (last (has (take i xs) x)))
+      | inr ne ↦ rw (get_or-set_other marks x w true false ne, before, ne_eqb x w (λ e. ne (sym e))) (none (has (take i xs) w))
+    ])
+  where
+    last : (b : Bool) → (b || (true || false)) ≡ true
+    last b = grind arith
+
+    none : (b : Bool) → b ≡ (b || (false || false))
+    none b = grind arith
+
+-- marks without one node
+pub marks_but : (xs : List ℕ) (marks : List Bool) (out w : ℕ) → out < length marks → mark_of marks w ≡ has xs w → mark_of (set marks out false) w ≡ without (has xs) out w
+marks_but xs marks out w room before = elim (cases_eq w out) [
+  | inl e ↦ rw (e, get_or-set_same marks out false false room, eq-eqb out out refl) (sym (and_right (has xs out) (not true) refl))
+  | inr ne ↦ rw (get_or-set_other marks out w false false ne, before, ne_eqb w out ne) (kept (has xs w))
+]
+  where
+    kept : (b : Bool) → b ≡ (b && not false)
+    kept b = grind arith
+
+-- a set with the node at the next place of a list
+pub has-next : (xs : List ℕ) (i d x w : ℕ) (old : ℕ → Bool) → i < length xs → x ≡ get_or xs i d → old w ≡ has (take i xs) w → ((x == w) || old w) ≡ has (take (i + 1) xs) w
+unfolding has
+has-next xs i d x w old l same before =
+    rw (take_more xs i d l, has-append (take i xs) (get_or xs i d ∷ []) w, sym same, before) (regroup (x == w) (has (take i xs) w))
+  where
+    regroup : (a b : Bool) → (a || b) ≡ (b || (a || false))
+    regroup a b = grind arith

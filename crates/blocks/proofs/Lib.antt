@@ -1,0 +1,11 @@
+pub mod Vectors
+pub mod Working
+pub mod CutVertices
+pub mod SameSets
+pub mod Filtering
+pub mod Looking
+pub mod Sweeping
+pub mod SetLists
+pub mod OneSide
+pub mod Cutting
+pub mod Unparted

@@ -1,0 +1,13 @@
+use Rattle.std.proofs.Common.{arith}
+use Rattle.tomo_base.specs.Blocks.{IsBlock}
+use Rattle.blocks.proofs.SameSets.{sets_same, node_sets}
+use Rattle.blocks.proofs.block_list.blocks.Goals as goal
+
+pub ordered_sets-requires-clause-sets : goal.ordered_sets-requires-clause-sets
+ordered_sets-requires-clause-sets c = node_sets c.args.g.now.nodes _ (omega (arith, c.nodes-nodes.ensures.few, c.nodes-nodes.ensures.nodes)) c.in_ok-found.ensures.blocks.nodes
+
+pub returns-clause-blocks : goal.returns-clause-blocks
+returns-clause-blocks c = record {
+  with_it = sets_same c.args.g.now.nodes (IsBlock c.args.g.now) _ _ c.in_ok-found.ensures.blocks c.in_ok-list.ensures.same;
+  in_order = c.in_ok-list.ensures.ascending;
+}

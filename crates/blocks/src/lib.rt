@@ -1,0 +1,11 @@
+//! Blocks and cut vertices of a connected graph.
+#![tactic(auto)]
+
+mod block_list;
+mod node_lists;
+mod sides;
+#[cfg(test)]
+mod tests;
+
+pub use block_list::{BlockList, blocks};
+pub use node_lists::ordered_sets;

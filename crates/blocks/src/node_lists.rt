@@ -1,0 +1,50 @@
+// Lists of nodes as node sets, in lexicographic order.
+ghost use Rattle.std.specs.Prelude.{ℕ, ◌≡◌, ◌<◌, ◌≤◌, ◌^◌, ◌↔◌, List, length, map, All, Contains, IfOk};
+ghost use Rattle.std.specs.List.Sorted.{IsStrictlySortedBy, IsStrictlyIncreasing};
+ghost use Rattle.tomo_base.specs.NodeLists.{IsNodeSet};
+ghost use Rattle.tomo_base.specs.SetLists.{set_cmp};
+ghost use Rattle.blocks.specs.Lists.{lists_of};
+
+use std::alloc::Global;
+use tomo_base::{NoMemory, NodeSet, NodeSets};
+
+// Sorts lists in lexicographic order and keeps equal ones once.
+fn sort_lists(lists: &mut Vec<Vec<u32>>)
+    ensures ascending { IsStrictlySortedBy set_cmp (lists_of lists.new.items) }
+    ensures kept { (q : List ℕ) → Contains (lists_of lists.old.items) q → Contains (lists_of lists.new.items) q }
+    ensures given { (q : List ℕ) → Contains (lists_of lists.new.items) q → Contains (lists_of lists.old.items) q }
+    ensures few { length lists.new.items ≤ length lists.old.items }
+{
+    lists.sort_unstable();
+    lists.dedup();
+}
+
+// The set of these nodes, which ascend.
+fn set_of(alloc: Global, nodes: &[u32]) -> Result<NodeSet, NoMemory>
+    requires { IsNodeSet nodes.now }
+    ensures { IfOk result (λ s. s ≡ nodes.now) }
+{
+    let mut set = NodeSet::new(alloc);
+    for &v in nodes {
+        set.insert(v)?;
+    }
+    Ok(set)
+}
+
+/// The sets with these nodes, each of which ascends, in lexicographic order and each once.
+pub fn ordered_sets(alloc: Global, mut lists: Vec<Vec<u32>>) -> Result<NodeSets, NoMemory>
+    requires sets { All IsNodeSet (lists_of lists.items) }
+    requires few { length lists.items < 2 ^ 32 }
+    ensures ascending { IfOk result (IsStrictlySortedBy set_cmp) }
+    ensures same { IfOk result (λ sets. (q : List ℕ) → Contains sets q ↔ Contains (lists_of lists.items) q) }
+{
+    sort_lists(&mut lists);
+    let mut sets = NodeSets::new(alloc);
+    for nodes in &lists {
+        match sets.push(set_of(alloc, nodes)?) {
+            Ok(()) => (),
+            Err(_) => return Err(NoMemory),
+        }
+    }
+    Ok(sets)
+}

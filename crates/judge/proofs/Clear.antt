@@ -5,9 +5,11 @@ use Rattle.tomo_base.specs.Network.{Network, IsGraph}
 use Rattle.tomo_base.specs.Sets.{has, size, outside}
 use Rattle.tomo_base.specs.Walks.{IsConnected}
 use Rattle.tomo_base.specs.BadParts.{IsBadPart, NoBadPart, IsCutOff}
+use Rattle.tomo_base.specs.Cuts.{extended, IsThreeConnected}
 use Rattle.tomo_base.proofs.Counts.{count_gives, count-some}
 use Rattle.unit_flow.specs.Fan.{IsLeastCutOff}
 use Rattle.ident_laws.proofs.BadParts.{no_bad_part}
+use Rattle.extended_graph.proofs.Telling.{three_connected_by_monitors}
 use Rattle.judge.specs.Verdict.{IsFoundBad}
 
 -- no node below v stands in a bad part
@@ -55,3 +57,7 @@ found_bad g m v k nodes graph connected three node clear few least below =
       };
       below = below;
     }
+
+-- where there is a bad set the extended graph is not three-connected
+pub found_parts : (g : Network) (m nodes : List ℕ) → IsGraph g → IsConnected g → 3 ≤ g.nodes → All (λ v. v < g.nodes) m → IsFoundBad g (has m) nodes → IsThreeConnected (extended g m) → ⊥
+found_parts g m nodes graph connected three below found t = (three_connected_by_monitors g m graph connected three below).0 t found.bad_set.in_bad_part.0 found.bad_set.in_bad_part.1

@@ -4,6 +4,7 @@ use Rattle.tomo_base.specs.Network.{Network}
 use Rattle.tomo_base.specs.Sets.{has}
 use Rattle.tomo_base.specs.Identify.{Identifies}
 use Rattle.tomo_base.specs.BadParts.{IsBadSet}
+use Rattle.tomo_base.specs.Cuts.{extended, IsThreeConnected}
 use Rattle.judge.specs.declared.monitors.Verdict.{Verdict}
 use Rattle.judge.specs.declared.monitors.Verdict.TheVariants.{Yes, Bad}
 
@@ -17,3 +18,8 @@ pub record IsFoundBad (g : Network) (m : ℕ → Bool) (nodes : List ℕ) : Type
 abbrev pub IsVerdict : Network → (ℕ → Bool) → Verdict → Type 0
 IsVerdict g m Yes = Identifies g m
 IsVerdict g m (Bad nodes) = IsFoundBad g m nodes
+
+-- either the extended graph is three-connected, or it is not
+abbrev pub TellsExtended : Network → List ℕ → Verdict → Type 0
+TellsExtended g m Yes = IsThreeConnected (extended g m)
+TellsExtended g m (Bad nodes) = IsThreeConnected (extended g m) → ⊥

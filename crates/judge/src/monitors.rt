@@ -1,10 +1,13 @@
 // The test of a set of monitors.
-ghost use Rattle.std.specs.Prelude.{◌<◌, ◌≤◌, All, IfOk};
+ghost use Rattle.std.specs.Prelude.{◌<◌, ◌≤◌, All, IfOk, IsTrue};
 ghost use Rattle.tomo_base.specs.Sets.{has};
 ghost use Rattle.tomo_base.specs.Walks.{IsConnected};
-ghost use Rattle.judge.specs.Verdict.{IsVerdict};
+ghost use Rattle.tomo_base.specs.Cuts.{extended, IsThreeConnected};
+ghost use Rattle.judge.specs.Verdict.{IsVerdict, TellsExtended};
 
+use extended_graph::extend;
 use std::alloc::Global;
+use three_conn::{Conn, three_connected};
 use tomo_base::{Graph, NoMemory, NodeSet};
 use unit_flow::{Fanned, fan};
 
@@ -18,16 +21,22 @@ pub enum Verdict {
 }
 
 /// Judges monitors of a connected graph: `Yes` exactly where they identify every link, and `Bad` exactly where they do not, with the bad
-/// set. Each node that is no monitor is asked for three paths to different monitors that share only the node; the first that has none
-/// stands in the bad set, which is the least set that fewer nodes cut off from the monitors. At most three searches a node, each linear in
-/// nodes and links. That three such paths decide is after Ma, He, Leung, Swami and Towsley (2013).
+/// set. They identify exactly where the extended graph is three-connected, so that is asked first; where it is not, or would be larger than
+/// a graph may be, each node that is no monitor is asked for three paths to different monitors that share only the node. The first that has
+/// none stands in the bad set, which is the least set that fewer nodes cut off from the monitors. At most a few searches a node, each linear
+/// in nodes and links. After Ma, He, Leung, Swami and Towsley (2013).
 pub fn judge(alloc: Global, g: &Graph, m: &NodeSet) -> Result<Verdict, NoMemory>
     requires connected { IsConnected g.now }
     requires three { 3 ≤ g.now.nodes }
     requires nodes { All (λ v. v < g.now.nodes) m.now }
-    ensures { IfOk result (IsVerdict g.now (has m.now)) }
+    ensures verdict { IfOk result (IsVerdict g.now (has m.now)) }
+    ensures extended { IfOk result (TellsExtended g.now m.now) }
 {
-    for v in 0..g.nodes() {
+    let n = g.nodes();
+    if is_seen_whole(alloc, g, m)? {
+        return Ok(Verdict::Yes);
+    }
+    for v in 0..n {
         if m.has(v) {
             continue;
         }
@@ -36,4 +45,16 @@ pub fn judge(alloc: Global, g: &Graph, m: &NodeSet) -> Result<Verdict, NoMemory>
         }
     }
     Ok(Verdict::Yes)
+}
+
+// Whether the extended graph is three-connected; not where it would be larger than a graph may be.
+fn is_seen_whole(alloc: Global, g: &Graph, m: &NodeSet) -> Result<bool, NoMemory>
+    requires { All (λ v. v < g.now.nodes) m.now }
+    ensures { IfOk result (λ whole. IsTrue whole → IsThreeConnected (extended g.now m.now)) }
+{
+    if g.nodes() > 9998 || g.links().len() + 2 * m.as_slice().len() > 20_000 {
+        return Ok(false);
+    }
+    let wide = extend(alloc, g, m)?;
+    Ok(matches!(three_connected(alloc, &wide)?, Conn::Yes))
 }

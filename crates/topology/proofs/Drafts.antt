@@ -15,7 +15,8 @@ use Rattle.topology.specs.Topology.{row_names, names_of, node_of, link_between, 
 use Rattle.topology.specs.Draft.{IsDraft, IsDraftOf}
 use Rattle.topology.proofs.Distinct.{any_inserted, any_kept, any-distinct, distinct-push, All-inserted, length-inserted}
 use Rattle.topology.proofs.Numbers.{node_kept, node_added, node_within, nodes_differ, distinct_names}
-use Rattle.topology.proofs.Graphs.{same_link-Decides, AreLinks-more, links_added, between_ordered}
+use Rattle.tomo_base.proofs.Graphs.{AreLinks-more}
+use Rattle.topology.proofs.Graphs.{same_link-Decides, links_added, between_ordered}
 
 -- the two names of a row, added in turn
 abbrev pub with_names : List (List ℕ) → Row → List (List ℕ)

@@ -1,4 +1,4 @@
-use Rattle.topology.proofs.Graphs.{no_fault, graph_is}
+use Rattle.tomo_base.proofs.Graphs.{no_fault, graph_is}
 use Rattle.topology.proofs.Ending.{found_apart}
 use Rattle.topology.proofs.topology.connected_graph.Goals as goal
 

@@ -21,9 +21,9 @@ pub record IsArm (g : Network) (w held : ℕ → Bool) (u : ℕ) (arm : ℕ → 
   pub walk : Reaches g arm u foot
 
 -- two nodes that an arm avoids do not part its node from the root
-arm_tied : (g : Network) (w held arm : ℕ → Bool) (root u c d : ℕ) → IsHeld g w root held → IsArm g w held u arm → c ≢ root → d ≢ root → IsTrue (without_two w c d u) → arm c ≡ false → arm d ≡ false
+arm_joined : (g : Network) (w held arm : ℕ → Bool) (root u c d : ℕ) → IsHeld g w root held → IsArm g w held u arm → c ≢ root → d ≢ root → IsTrue (without_two w c d u) → arm c ≡ false → arm d ≡ false
     → Reaches g (without_two w c d) root u
-arm_tied g w held arm root u c d h a rc rd here ac ad =
+arm_joined g w held arm root u c d h a rc rd here ac ad =
     let stays : Within arm (without_two w c d) = λ v t. without_two-from w c d v (a.inside v t)
     (λ e. both_ways (arm c) ac (subst (λ z. arm z ≡ true) e t)) (λ e. both_ways (arm d) ad (subst (λ z. arm z ≡ true) e t)) in
     Reaches-trans g (without_two w c d) root a.foot u (h.joined c d a.foot rc rd a.foot_held (stays a.foot a.foot_in))
@@ -56,11 +56,11 @@ held_more g w held p q r root u h a b c pq pr qr = record {
         let same : v ≡ u = eqb-true v u new in
         let here : IsTrue (without_two w e f u) = subst (λ z. IsTrue (without_two w e f z)) same t in
         subst (λ z. Reaches g (without_two w e f) root z) (sym same) (elim (avoids_or p e f) [
-          | inl m ↦ arm_tied g w held p root u e f h a re rf here m.0 m.1
+          | inl m ↦ arm_joined g w held p root u e f h a re rf here m.0 m.1
           | inr x ↦ elim (avoids_or q e f) [
-            | inl m ↦ arm_tied g w held q root u e f h b re rf here m.0 m.1
+            | inl m ↦ arm_joined g w held q root u e f h b re rf here m.0 m.1
             | inr y ↦ elim (avoids_or r e f) [
-              | inl m ↦ arm_tied g w held r root u e f h c re rf here m.0 m.1
+              | inl m ↦ arm_joined g w held r root u e f h c re rf here m.0 m.1
               | inr z ↦ absurd (two_miss_one p q r e f pq pr qr x y z)
             ]
           ]

@@ -1,8 +1,8 @@
 -- Numbers of a set other than three.
-use Rattle.std.proofs.Common.{◌≡◌, ◌≢◌, ℕ, ◌+◌, ◌<◌, ◌≤◌, Bool, true, false, not, ◌&&◌, ◌||◌, ◌==◌, List, [], ◌∷◌, length, refl, sym, arith, inl, inr}
-use Rattle.std.proofs.lemmas.Bool.{cases_Bool, cases_lt, both_ways, and_parts, and_from, or_left, or_right, not_from_false, not-true, eqb-true, eq-eqb, ne_eqb}
-use Rattle.tomo_base.specs.Sets.{one_if, count, has, nothing}
-use Rattle.tomo_base.proofs.Counts.{find, count-mono, count-none, count-one, count_pairs}
+use Rattle.std.proofs.Common.{◌≡◌, ◌≢◌, ℕ, ◌<◌, ◌≤◌, Bool, true, false, not, ◌&&◌, ◌||◌, ◌==◌, List, [], ◌∷◌, length, sym, arith, inl, inr}
+use Rattle.std.proofs.lemmas.Bool.{cases_Bool, both_ways, and_parts, and_from, or_left, or_right, not_from_false, not-true, eq-eqb}
+use Rattle.tomo_base.specs.Sets.{count, has}
+use Rattle.tomo_base.proofs.Counts.{find, count-mono}
 use Rattle.tomo_base.proofs.Members.{count_has-le}
 
 -- a set with more numbers than a list has one that does not stand there

@@ -20,9 +20,9 @@ pub enum Conn {
 }
 
 /// Tells whether a graph is three-connected: `Few` exactly where it has fewer than four nodes, `Yes` exactly where it is, and else `Cut`
-/// with at most two nodes without which it is not connected. Nodes that no two others part from node 0 are gathered one by one, each where
-/// three ways lead to those gathered; then each node is tried together with node 0. At most three searches a node, each linear in nodes and
-/// links.
+/// with at most two nodes without which it is not connected. Nodes that no two others part from a node with the most neighbours are
+/// gathered one by one, each where three ways lead to those gathered; then each node is tried together with that node. At most three
+/// searches a node, each linear in nodes and links.
 pub fn three_connected(alloc: Global, g: &Graph) -> Result<Conn, NoMemory>
     ensures { IfOk result (IsConn g.now) }
 {
@@ -31,7 +31,8 @@ pub fn three_connected(alloc: Global, g: &Graph) -> Result<Conn, NoMemory>
         return Ok(Conn::Few);
     }
     let nodes = vec![in alloc; true; n as usize]?;
-    let mut known = begin(alloc, g, &nodes, 0)?;
+    let root = busiest(g);
+    let mut known = begin(alloc, g, &nodes, root)?;
     match probe(alloc, g, &nodes, &mut known)? {
         None => Ok(Conn::Yes),
         Some(parting) => Ok(Conn::Cut(pair(alloc, n, parting.c, parting.d)?)),
@@ -53,4 +54,18 @@ fn pair(alloc: Global, n: u32, c: u32, d: u32) -> Result<NodeSet, NoMemory>
         set.insert(d)?;
     }
     Ok(set)
+}
+
+// A node with the most neighbours.
+fn busiest(g: &Graph) -> u32
+    requires { 1 ≤ g.now.nodes }
+    ensures { result < g.now.nodes }
+{
+    let mut most = 0;
+    for v in 1..g.nodes() {
+        if g.hops(v).len() > g.hops(most).len() {
+            most = v;
+        }
+    }
+    most
 }

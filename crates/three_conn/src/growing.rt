@@ -1,7 +1,7 @@
 // One node more that no two others part from the root.
-ghost use Rattle.std.specs.Prelude.{◌≡◌, ◌<◌, ◌≤◌, ◌≢◌, ℕ, Bool, true, length, IfOk, IfSome, IfNone};
+ghost use Rattle.std.specs.Prelude.{◌≡◌, ◌<◌, ℕ, [], ◌∷◌, true, length, IfOk, IfSome, IfNone};
 ghost use Rattle.tomo_base.specs.Sets.{Within};
-ghost use Rattle.tomo_base.specs.Search.{mark_of};
+ghost use Rattle.tomo_base.specs.Search.{mark_of, IsSweep};
 ghost use Rattle.three_conn.specs.Trees.{IsGate};
 ghost use Rattle.three_conn.specs.Held.{IsKnown, IsParting, IsStep};
 
@@ -10,41 +10,35 @@ use crate::known::{Known, Parting, Step};
 use crate::marks::rest;
 use crate::meeting::meet;
 use std::alloc::Global;
-use tomo_base::{Graph, NoMemory, sweep};
+use tomo_base::{Graph, NoMemory, Swept, sweep};
 
-// A step from a free node with a gate: two more gates, to other nodes, give a node that may be held, where the ways from the three meet.
-fn step_at(
-    alloc: Global,
-    g: &Graph,
-    nodes: &[bool],
-    free: &[bool],
-    first: Gate,
-) -> Result<Step, NoMemory>
+// A step by a search from a free node with a gate: two more gates, to other nodes, give a node that may be held, where the ways from the
+// three meet.
+fn step_by(g: &Graph, nodes: &[bool], free: &[bool], first: Gate, found: Swept) -> Step
     requires marks { length nodes.now ≡ g.now.nodes }
     requires free { length free.now ≡ g.now.nodes }
-    requires inner { (first.inner < g.now.nodes) × (mark_of free.now first.inner ≡ true) }
     requires gate { (c : ℕ) × (d : ℕ) × IsGate g.now (mark_of nodes.now) (mark_of free.now) first.inner c d first.outer }
-    ensures { IfOk result (IsStep g.now (mark_of nodes.now) (mark_of free.now)) }
+    requires found { IsSweep g.now free.now (first.inner ∷ []) found }
+    ensures { IsStep g.now (mark_of nodes.now) (mark_of free.now) result }
 {
     let _count = g.nodes();
-    let (x, a) = (first.inner, first.outer);
-    let found = sweep(alloc, g, free, &[x])?;
+    let a = first.outer;
     let Some(second) = first_gate(g, nodes, free, &found.order, a, a) else {
-        return Ok(Step::Parted(Parting {
+        return Step::Parted(Parting {
             side: found.order,
             c: a,
             d: a,
-        }));
+        });
     };
     let b = second.outer;
     let Some(third) = first_gate(g, nodes, free, &found.order, a, b) else {
-        return Ok(Step::Parted(Parting {
+        return Step::Parted(Parting {
             side: found.order,
             c: a,
             d: b,
-        }));
+        });
     };
-    Ok(Step::More(meet(&found, second.inner, third.inner)))
+    Step::More(meet(&found, second.inner, third.inner))
 }
 
 // A step: the free nodes that are connected to x have no gate, or a step goes from the first that has one.
@@ -56,14 +50,18 @@ fn step(alloc: Global, g: &Graph, nodes: &[bool], free: &[bool], x: u32) -> Resu
 {
     let n = g.nodes();
     let found = sweep(alloc, g, free, &[x])?;
-    match first_gate(g, nodes, free, &found.order, n, n) {
-        Some(gate) => step_at(alloc, g, nodes, free, gate),
-        None => Ok(Step::Parted(Parting {
+    let Some(gate) = first_gate(g, nodes, free, &found.order, n, n) else {
+        return Ok(Step::Parted(Parting {
             side: found.order,
             c: n,
             d: n,
-        })),
+        }));
+    };
+    if gate.inner == x {
+        return Ok(step_by(g, nodes, free, gate, found));
     }
+    let again = sweep(alloc, g, free, &[gate.inner])?;
+    Ok(step_by(g, nodes, free, gate, again))
 }
 
 /// Lets the held nodes grow until all nodes of the set are held, or two nodes part the set.

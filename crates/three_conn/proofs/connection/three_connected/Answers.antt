@@ -4,6 +4,10 @@ use Rattle.tomo_base.specs.Search.{mark_of}
 use Rattle.three_conn.proofs.Whole.{all_marked, all_marked_size, whole_graph, separated}
 use Rattle.three_conn.proofs.connection.three_connected.Goals as goal
 
+pub begin-requires-clause-root : goal.begin-requires-clause-root
+begin-requires-clause-root c =
+    all_marked c.args.g.now.nodes c.nodes-n.result c.deref.result.now c.in_ok-nodes.nodes.items c.deref.ensures.value (c.in_ok-nodes.ensures.items_if_clones_equal (λ y h. h)) c.nodes-n.ensures.nodes c.busiest-root.result c.busiest-root.ensures
+
 pub probe-requires-clause-four : goal.probe-requires-clause-four
 probe-requires-clause-four c =
     all_marked_size c.args.g.now.nodes (mark_of c.deref-2.result.now)

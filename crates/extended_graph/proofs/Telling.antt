@@ -1,6 +1,6 @@
 -- A bad part parts the extended graph, and what at most two nodes part in it gives a bad part.
-use Rattle.std.proofs.Common.{◌≡◌, ℕ, suc, ◌+◌, ◌<◌, ◌≤◌, ◌⊎◌, Bool, true, false, not, ◌&&◌, nat_lt, List, [], ◌∷◌, All, IsTrue, refl, sym, ap, subst, ◌∙◌, inl, inr, arith, lt-ltb}
-use Rattle.std.proofs.lemmas.Bool.{cases_Bool, cases_eq, cases_lt, both_ways, and_parts, and_from, and_left, and_right, not_from_false, not-true, false_from_ne_true, ltb-true}
+use Rattle.std.proofs.Common.{◌≡◌, ℕ, suc, ◌+◌, ◌<◌, ◌≤◌, ◌⊎◌, Bool, true, false, not, ◌&&◌, nat_lt, List, [], ◌∷◌, All, IsTrue, refl, sym, ap, subst, inl, inr, arith, lt-ltb}
+use Rattle.std.proofs.lemmas.Bool.{cases_Bool, cases_eq, cases_lt, both_ways, and_parts, and_from, and_left, not_from_false, not-true, false_from_ne_true, ltb-true}
 use Rattle.tomo_base.specs.Network.{Network, linked, IsGraph}
 use Rattle.tomo_base.specs.Sets.{count, has, size, outside, touches, complement}
 use Rattle.tomo_base.specs.Walks.{StepsFrom, AllIn, Reaches, IsConnected, everything}
@@ -12,7 +12,7 @@ use Rattle.tomo_base.proofs.Touching.{touches-from, touches_gives, outside_below
 use Rattle.tomo_base.proofs.Walks.{stays_in}
 use Rattle.tomo_base.proofs.Reaching.{reached}
 use Rattle.extended_graph.specs.Laws.{ThreeConnectedByMonitors}
-use Rattle.extended_graph.proofs.HubLinks.{IsFurther, AreHubEnds, old_linked, hub_linked, linked_cases, extended_below}
+use Rattle.extended_graph.proofs.HubLinks.{old_linked, hub_linked, linked_cases, extended_below}
 
 -- a count up to n + 2
 count-two_more : (n : ℕ) (q : ℕ → Bool) → q n ≡ false → q (n + 1) ≡ false → count (n + 2) q ≡ count n q

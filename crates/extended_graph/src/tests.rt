@@ -20,7 +20,9 @@ fn extended_by(alloc: Global, g: &Graph, monitors: &[u32]) -> Result<Option<Grap
     for &v in monitors {
         set.insert(v % 10)?;
     }
-    if !lies_in(g, &set) || g.nodes() > 9998 || g.links().len() + 2 * set.as_slice().len() > 20_000
+    if !lies_in(g, &set)
+        || g.nodes() > 9998
+        || g.links().len() + 2 * set.as_slice().len() > 20_000
     {
         return Ok(None);
     }

@@ -1,8 +1,5 @@
-use Rattle.std.proofs.Common.{◌≡◌, ◌++◌, ◌+◌, ◌*◌, ◌∙◌, List, length, take, refl, sym, ap, arith, length-append}
-use Rattle.std.proofs.lemmas.List.{take_all}
-use Rattle.tomo_base.specs.declared.graph.Link.{Link}
-use Rattle.tomo_base.specs.Network.{AreLinks}
-use Rattle.tomo_base.specs.Cuts.{hub_links, extended}
+use Rattle.std.proofs.Common.{◌++◌, ◌+◌, refl, arith, length-append}
+use Rattle.tomo_base.specs.Cuts.{hub_links}
 use Rattle.tomo_base.proofs.Graphs.{no_fault, graph_is}
 use Rattle.extended_graph.proofs.HubLinks.{hub_more, all_added, length-hub_links, extended_links}
 use Rattle.extended_graph.proofs.extending.extend.Goals as goal

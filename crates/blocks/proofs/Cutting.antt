@@ -25,7 +25,7 @@ pub record BlockLike (N : Network) (n : ℕ) (W : ℕ → Bool) : Type 0 where
   pub two : 2 ≤ count n W
   pub firm : IsJoinedWithoutOne N W
 
--- a largest block-like set of nodes of V
+-- a largest nonseparable set of nodes of V
 pub record Block (N : Network) (n : ℕ) (V B : ℕ → Bool) : Type 0 where
   pub inside : Within B V
   pub like : BlockLike N n B
@@ -104,7 +104,7 @@ plus-count k K w = omega (
       elim (or_cases (K v) (v == w) p.0) [ inl i ↦ i | inr e ↦ absurd (p.1 (eqb-true v w e)) ]),
 )
 
--- meet sides of a cut together count one node without-twice
+-- both sides of a cut together count one node twice
 pub cut-count : (N : Network) (S : ℕ → Bool) (w : ℕ) (K : ℕ → Bool) (n : ℕ) → ((v : ℕ) → IsTrue (S v) → v < n) → Cut N S w K
     → count n (with_one K w) + count n (with_one (rest S w K) w) ≤ count n S + 1
 cut-count N S w K n bound cut = omega (
@@ -116,7 +116,7 @@ cut-count N S w K n bound cut = omega (
   count-removed n S w (bound w cut.at) cut.at,
 )
 
--- a block-like set lies on one side
+-- a nonseparable set lies on one side
 pub like-in-part : (N : Network) (S : ℕ → Bool) (w : ℕ) (K : ℕ → Bool) (n : ℕ) → Cut N S w K → (T : ℕ → Bool) → BlockLike N n T → Within T S
     → ((v : ℕ) → IsTrue (T v) → v < n) → Within T (with_one K w) ⊎ Within T (with_one (rest S w K) w)
 like-in-part N S w K n cut T like ts bound = elim (find n (meet T K)) [
@@ -292,14 +292,14 @@ cutting-cut N n V bound S w K todo out c cut =
       across = (fewer K cut out c.across.0, (fewer R other out c.across.0, c.across.1));
     }
 
--- two sets that share at most one node: no set of two nodes lies in meet
+-- two sets that share at most one node: no set of two nodes lies in both
 clash : (n : ℕ) (A B X : ℕ → Bool) → MeetOne A B → 2 ≤ count n X → Within X A → Within X B → ⊥
 clash n A B X h two xa xb =
     let u = pick1 n X two n in
     let v = pick1 n X two u.0 in
     v.3 (h v.0 u.0 (xa v.0 v.2) (xb v.0 v.2) (xa u.0 u.2) (xb u.0 u.2))
 
--- at the end the sets are blocks, every block is one of them, and none stands without-twice
+-- at the end the sets are blocks, every block is one of them, and none stands twice
 pub cutting-end : (N : Network) (n : ℕ) (V : ℕ → Bool) (out : List (ℕ → Bool)) → Cutting N n V [] out
     → Each (Block N n V) out × ((B : ℕ → Bool) → Block N n V B → Some (λ L. Within B L × Within L B) out) × Pairs (λ A B. Within A B → ⊥) out
 cutting-end N n V out c =
@@ -373,7 +373,7 @@ pub all-blocks : (N : Network) (n : ℕ) (V : ℕ → Bool) → ((v : ℕ) → I
     → (blocks : List (ℕ → Bool)) × Cutting N n V [] blocks
 all-blocks N n V bound two firm = cut-all N n V bound (weight n (V ∷ []) + 1) (V ∷ []) [] (omega arith) (cutting-start N n V two firm)
 
--- every block-like set lies in a block
+-- every nonseparable set lies in a block
 pub block-over : (N : Network) (n : ℕ) (V : ℕ → Bool) → ((v : ℕ) → IsTrue (V v) → v < n) → IsJoinedIn N V → (T : ℕ → Bool) → BlockLike N n T → Within T V
     → (B : ℕ → Bool) × Block N n V B × Within T B
 block-over N n V bound firm T like tv =

@@ -1,0 +1,15 @@
+pub mod Part
+pub mod Rigid
+pub mod Owner
+pub mod PartsParted
+pub mod Pass
+pub mod Sound
+pub mod Halving
+pub mod Pairs
+pub mod Rows
+pub mod Fewness
+pub mod MarkedLinks
+pub mod Marking
+pub mod Halved
+pub mod Topmost
+pub mod Sounding

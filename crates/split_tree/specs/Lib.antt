@@ -1,0 +1,5 @@
+pub mod Pieces
+pub mod Trees
+pub mod OneProof
+pub mod Parts
+pub mod Stages

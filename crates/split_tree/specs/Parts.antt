@@ -1,0 +1,18 @@
+-- A part of a piece by marks on its nodes.
+use Rattle.std.specs.Prelude.{ℕ, ◌≡◌, ◌+◌, ◌≤◌, ◌&&◌, ◌||◌, Bool, List, length}
+use Rattle.std.specs.List.{filter}
+use Rattle.tomo_base.specs.declared.graph.Link.{Link}
+use Rattle.tomo_base.specs.Network.{joins, any_joins, AreLinks}
+use Rattle.tomo_base.specs.Search.{mark_of}
+use Rattle.split_tree.specs.declared.piece.Piece.{Piece}
+
+-- both ends of the link have a mark
+abbrev pub is_inside : List Bool → Link → Bool
+is_inside marks l = mark_of marks l.a && mark_of marks l.b
+
+-- the marked nodes, the links between them, and the link more, which is joined once
+pub record IsMarkedPart (n : ℕ) (whole : Piece) (marks : List Bool) (pair : Link) (part : Piece) : Type 0 where
+  pub nodes_are : part.nodes ≡ filter (mark_of marks) whole.nodes
+  pub graph : AreLinks n part.links
+  pub links_are : (u v : ℕ) → any_joins part.links u v ≡ (any_joins (filter (is_inside marks) whole.links) u v || joins pair u v)
+  pub few : length part.links ≤ length (filter (is_inside marks) whole.links) + 1

@@ -1,0 +1,76 @@
+// A piece is cut at two nodes that part it.
+ghost use Rattle.std.specs.Prelude.{◌≡◌, ◌≤◌, ◌<◌, length, IfOk, IfSome, IfNone};
+ghost use Rattle.tomo_base.specs.Sets.{has};
+ghost use Rattle.tomo_base.specs.Parting.{IsThreeConnectedIn};
+ghost use Rattle.split_tree.specs.Pieces.{net};
+ghost use Rattle.split_tree.specs.Stages.{IsStage, IsHalved, IsPairCut};
+
+use crate::marks::{marks_of, marks_with, marks_without};
+use crate::marked::part;
+use crate::piece::Piece;
+use std::alloc::Global;
+use three_conn::{Parting, begin, probe};
+use tomo_base::{Graph, GraphFault, Link, NoMemory};
+
+// Two nodes, and the two parts into which they cut a piece.
+#[derive(Drop)]
+pub struct Halves {
+    pub pair: Link,
+    pub left: Piece,
+    pub right: Piece,
+}
+
+// The piece as a graph.
+fn graph_of(alloc: Global, n: u32, piece: &Piece) -> Result<Graph, NoMemory>
+    requires stage { IsStage n piece.now }
+    requires few { n ≤ 10000 }
+    ensures { IfOk result (λ g. g ≡ net n piece.now) }
+{
+    match Graph::new(alloc, n, piece.links.as_slice()) {
+        Ok(graph) => Ok(graph),
+        Err(fault) => match fault {
+            GraphFault::NoMemory => Err(NoMemory),
+            _ => unreachable!(),
+        },
+    }
+}
+
+// Two nodes that part the piece, and one side.
+fn parting_of(alloc: Global, n: u32, piece: &Piece) -> Result<Option<Parting>, NoMemory>
+    requires stage { IsStage n piece.now }
+    requires few { n ≤ 10000 }
+    requires four { 4 ≤ length piece.now.nodes }
+    ensures whole { IfOk result (λ o. IfNone o (IsThreeConnectedIn (net n piece.now) (has piece.now.nodes))) }
+    ensures parting { IfOk result (λ o. IfSome o (IsPairCut n piece.now)) }
+{
+    let g = graph_of(alloc, n, piece)?;
+    let nodes = piece.nodes.as_slice();
+    let marks = marks_of(alloc, n, nodes)?;
+    let mut known = begin(alloc, &g, &marks, nodes[0])?;
+    match probe(alloc, &g, &marks, &mut known)? {
+        Some(parting) => Ok(Some(parting)),
+        None => Ok(None),
+    }
+}
+
+// The two parts of a piece at two nodes that part it, or none where it is three-connected.
+pub fn cut(alloc: Global, n: u32, piece: &Piece) -> Result<Option<Halves>, NoMemory>
+    requires stage { IsStage n piece.now }
+    requires few { n ≤ 10000 }
+    requires four { 4 ≤ length piece.now.nodes }
+    ensures whole { IfOk result (λ o. IfNone o (IsThreeConnectedIn (net n piece.now) (has piece.now.nodes))) }
+    ensures halved { IfOk result (λ o. IfSome o (IsHalved n piece.now)) }
+{
+    let Some(parting) = parting_of(alloc, n, piece)? else {
+        return Ok(None);
+    };
+    let pair = Link {
+        a: parting.c.min(parting.d),
+        b: parting.c.max(parting.d),
+    };
+    let near = marks_with(alloc, n, &parting.side, pair)?;
+    let far = marks_without(alloc, n, piece.nodes.as_slice(), &parting.side)?;
+    let left = part(alloc, n, piece, &near, pair)?;
+    let right = part(alloc, n, piece, &far, pair)?;
+    Ok(Some(Halves { pair, left, right }))
+}

@@ -1,0 +1,45 @@
+// The three-blocks of a block.
+ghost use Rattle.std.specs.Prelude.{◌≡◌, ◌++◌, IfOk, OnOk};
+ghost use Rattle.tomo_base.specs.Network.{Network, IsGraph};
+ghost use Rattle.tomo_base.specs.Sets.{has};
+ghost use Rattle.tomo_base.specs.Blocks.{IsThreeBlockOf};
+ghost use Rattle.tomo_base.specs.SetLists.{AreAllSets};
+ghost use Rattle.blocks.specs.Lists.{lists_of};
+ghost use Rattle.split_tree.specs.Pieces.{IsPieceOf};
+ghost use Rattle.split_tree.specs.Trees.{piece_of, rigids_of};
+
+use crate::tree::{SplitTree, Tree};
+use blocks::ordered_sets;
+use std::alloc::Global;
+use tomo_base::{NoMemory, NodeSets};
+
+// Adds the nodes of each rigid piece.
+fn collect(alloc: Global, tree: &Tree, found: &mut Vec<Vec<u32>>) -> Result<(), NoMemory>
+    ensures { OnOk result (lists_of found.new.items ≡ lists_of found.old.items ++ rigids_of tree.now) }
+{
+    match tree {
+        Tree::Small(_) => Ok(()),
+        Tree::Rigid(piece) => {
+            found.push(piece.nodes().to_vec(alloc)?)?;
+            Ok(())
+        }
+        Tree::Split { parts, .. } => {
+            for part in parts.as_slice() {
+                collect(alloc, part.get(), found)?;
+            }
+            Ok(())
+        }
+    }
+}
+
+/// The three-blocks of the topmost piece, in lexicographic order: in each graph in which this piece is a block with its links, exactly the
+/// largest sets of at least four of its nodes no two of which are parted by two others. They are the node sets of the rigid pieces.
+pub fn three_blocks(alloc: Global, t: &SplitTree) -> Result<NodeSets, NoMemory>
+    ensures { IfOk result (λ sets. (g : Network) → IsGraph g → g.nodes ≡ t.now.node_count → IsPieceOf g (piece_of t.now.root).nodes (piece_of t.now.root) →
+        AreAllSets g.nodes (IsThreeBlockOf g (has (piece_of t.now.root).nodes)) sets) }
+{
+    let mut found = Vec::new(alloc);
+    collect(alloc, &t.root, &mut found)?;
+    let sets = ordered_sets(alloc, found)?;
+    Ok(sets)
+}

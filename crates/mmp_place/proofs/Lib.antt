@@ -1,0 +1,13 @@
+pub mod Nodes
+pub mod Short
+pub mod Smallest
+pub mod Parts
+pub mod Passing
+pub mod Nested
+pub mod Additions
+pub mod Thresholds
+pub mod Placing
+pub mod Whole
+pub mod Prefixes
+pub mod FillingLoop
+pub mod Gathering

@@ -1,0 +1,10 @@
+//! The placement rule: the lowest set of monitors, by the parts of a graph.
+#![tactic(auto)]
+
+mod filling;
+pub mod laws;
+mod rule;
+#[cfg(test)]
+mod tests;
+
+pub use rule::mmp;

@@ -1,0 +1,4 @@
+pub mod Ears
+pub mod Crossing
+pub mod Turns
+pub mod Paths

@@ -1,0 +1,15 @@
+//! Ear orders of graphs that stay connected without any two nodes.
+#![tactic(auto)]
+
+mod candidates;
+mod marks;
+mod near;
+mod orders;
+mod parts;
+mod paths;
+mod turns;
+
+pub use orders::{EarOrder, Step, order};
+
+#[cfg(test)]
+mod tests;

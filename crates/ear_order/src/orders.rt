@@ -1,0 +1,120 @@
+// Ear orders.
+ghost use Rattle.std.specs.Prelude.{◌≡◌, ◌<◌, length, IfOk, OnOk, OnErr, ◌↔◌, slice_index_or, []};
+ghost use Rattle.tomo_base.specs.Cuts.{IsThreeConnected};
+ghost use Rattle.ear_order.specs.Ears.{AreEnds, IsOrder, IsWhole, IsBegun, AddsEar, IsWholeOrder};
+
+use crate::candidates::facing;
+use crate::marks::{first_unmarked, in_some_ear};
+use crate::turns::next_ear;
+use std::alloc::Global;
+use std::marker::Model;
+use tomo_base::{Graph, Link, NoMemory};
+
+/// What asking for the next ear comes to.
+#[derive(Clone, Copy, Debug, PartialEq, Eq)]
+pub enum Step {
+    /// There is one ear more.
+    More,
+    /// All nodes stand in ears.
+    Done,
+}
+
+/// An ear order so far of a graph that stays connected without any two nodes, as of Cheriyan and Maheshwari (1988): the first ear leads from
+/// one end of a link to the other, each later ear joins two nodes of earlier ones, and what is left holds the third node and stays connected.
+/// Contracts see the graph, the two ends, the third node and the ears. The links are kept for contracts alone.
+#[derive(Drop)]
+pub struct EarOrder {
+    node_count: u32,
+    links: Vec<Link>,
+    r: u32,
+    t: u32,
+    u: u32,
+    ears: Vec<Vec<u32>>,
+}
+
+impl Model for EarOrder {
+    ghost use Rattle.std.specs.Prelude.{map};
+    ghost use Rattle.ear_order.specs.Ears.{Ears, IsOrder};
+
+    ghost Value = { Ears };
+
+    ghost view = { λ o. record { graph = record { nodes = o.node_count; links = o.links.items }; r = o.r; t = o.t; u = o.u; list = map (λ e. e.items) o.ears.items } };
+
+    ghost invariant = { λ o. IsOrder (record { graph = record { nodes = o.node_count; links = o.links.items }; r = o.r; t = o.t; u = o.u; list = map (λ e. e.items) o.ears.items }) };
+}
+
+impl EarOrder {
+    /// The order with its first ear.
+    pub fn start(alloc: Global, g: &Graph, r: u32, t: u32, u: u32) -> Result<EarOrder, NoMemory>
+        requires three { IsThreeConnected g.now }
+        requires ends { AreEnds g.now r t u }
+        ensures { IfOk result (IsBegun g.now r t u) }
+    {
+        let n = g.nodes();
+        let mut old = vec![in alloc; false; n as usize]?;
+        old[r as usize] = true;
+        old[t as usize] = true;
+        let first = facing(next_ear(alloc, g, &old, u)?, t);
+        let links = g.links().to_vec(alloc)?;
+        let mut ears: Vec<Vec<u32>> = Vec::new(alloc);
+        ears.push(first)?;
+        Ok(EarOrder {
+            node_count: n,
+            links,
+            r,
+            t,
+            u,
+            ears,
+        })
+    }
+
+    /// Adds an ear, or answers that all nodes stand in ears. After want of memory the order is as before.
+    pub fn next(&mut self, alloc: Global, g: &Graph) -> Result<Step, NoMemory>
+        requires { self.old.graph ≡ g.now }
+        ensures more { IfOk result (λ s. s ≡ Step.More → AddsEar self.old self.new) }
+        ensures done { IfOk result (λ s. s ≡ Step.Done → self.new ≡ self.old) }
+        ensures whole { IfOk result (λ s. (s ≡ Step.Done) ↔ IsWhole self.old.graph self.old.list) }
+        ensures order { OnOk result (IsOrder self.new) }
+        ensures err { OnErr result (self.new ≡ self.old) }
+    {
+        let old = in_some_ear(alloc, g.nodes(), &self.ears)?;
+        let Some(_unmarked) = first_unmarked(&old) else {
+            return Ok(Step::Done);
+        };
+        let ear = next_ear(alloc, g, &old, self.u)?;
+        self.ears.push(ear)?;
+        Ok(Step::More)
+    }
+
+    /// How many ears there are. It takes no memory.
+    pub fn len(&self) -> u32
+        ensures len { result ≡ length self.now.list }
+        ensures order { IsOrder self.now }
+    {
+        self.ears.len() as u32
+    }
+
+    /// The ear at a place, counted from 0. It takes no memory.
+    pub fn ear(&self, i: u32) -> &[u32]
+        requires { i < length self.now.list }
+        ensures { result.now ≡ slice_index_or self.now.list i [] }
+    {
+        &self.ears[i as usize]
+    }
+}
+
+/// An ear order of all nodes, one ear after the other: as many as there are nodes at most, each in a few searches.
+pub fn order(alloc: Global, g: &Graph, r: u32, t: u32, u: u32) -> Result<EarOrder, NoMemory>
+    requires three { IsThreeConnected g.now }
+    requires ends { AreEnds g.now r t u }
+    ensures { IfOk result (IsWholeOrder g.now r t u) }
+{
+    let mut ears = EarOrder::start(alloc, g, r, t, u)?;
+    let _len = ears.len();
+    loop {
+        match ears.next(alloc, g)? {
+            Step::More => {}
+            Step::Done => return Ok(ears),
+        }
+    }
+}

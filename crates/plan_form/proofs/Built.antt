@@ -26,13 +26,13 @@ weighted_terms w f paths [] = refl
 weighted_terms w f paths (t ∷ ts) = ap (λ r. w t.coef * f (get_or paths t.path []) + r) (weighted_terms w f paths ts)
 
 -- and one over new numbers, where those name paths of the same weight
-renumbered_weight : (w : ℤ → ℕ) (f g : ℕ → ℕ) (number : ℕ → ℕ) (ts : List Term) → All (λ t. f (number t.path) ≡ g t.path) ts → weighted_by w f (renumbered number ts) ≡ weighted_by w g ts
+pub renumbered_weight : (w : ℤ → ℕ) (f g : ℕ → ℕ) (number : ℕ → ℕ) (ts : List Term) → All (λ t. f (number t.path) ≡ g t.path) ts → weighted_by w f (renumbered number ts) ≡ weighted_by w g ts
 unfolding weighted_by
 renumbered_weight w f g number [] same = refl
 renumbered_weight w f g number (t ∷ ts) same = ap₂ (λ a b. w t.coef * a + b) (All-head (λ (t : Term). f (number t.path) ≡ g t.path) t ts same) (renumbered_weight w f g number ts (All-tail (λ (t : Term). f (number t.path) ≡ g t.path) t ts same))
 
 -- renumbered terms name paths below the bound of the numbers
-renumbered_within : (number : ℕ → ℕ) (n : ℕ) (ts : List Term) → All (λ t. number t.path < n) ts → All (λ t. t.path < n) (renumbered number ts)
+pub renumbered_within : (number : ℕ → ℕ) (n : ℕ) (ts : List Term) → All (λ t. number t.path < n) ts → All (λ t. t.path < n) (renumbered number ts)
 renumbered_within number n [] all k d lt = absurd (omega (arith, lt))
 renumbered_within number n (t ∷ ts) all zero d lt = All-head (λ (t : Term). number t.path < n) t ts all
 renumbered_within number n (t ∷ ts) all (suc k) d lt = renumbered_within number n ts (All-tail (λ (t : Term). number t.path < n) t ts all) k d (omega (arith, lt))

@@ -29,3 +29,5 @@ pub mod Recipes
 pub mod PrintedBack
 pub mod Sizes
 pub mod Within
+pub mod Tied
+pub mod Retied

@@ -13,3 +13,4 @@ pub mod Reading
 pub mod Limits
 pub mod Laws
 pub mod Taking
+pub mod Tied

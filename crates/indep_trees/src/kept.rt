@@ -1,0 +1,71 @@
+// Independent trees, and what contracts see of them.
+ghost use Rattle.std.specs.Prelude.{◌≡◌, ◌<◌, ◌≤◌, ◌+◌, ◌*◌, length, All, IfOk};
+ghost use Rattle.tomo_base.specs.Sets.{has};
+ghost use Rattle.tomo_base.specs.Walks.{IsConnected};
+ghost use Rattle.tomo_base.specs.Identify.{Identifies};
+ghost use Rattle.indep_trees.specs.Trees.{IsFree, AreTrees, number_in, parent_in};
+
+use std::alloc::Global;
+use std::marker::Model;
+use tomo_base::{Graph, Link, NoMemory, NodeSet};
+
+/// A number for each node, and three parents for each node that is no monitor.
+#[derive(Drop)]
+pub struct IndepTrees {
+    node_count: u32,
+    links: Vec<Link>,
+    monitors: NodeSet,
+    numbers: Vec<u32>,
+    first: Vec<u32>,
+    second: Vec<u32>,
+    third: Vec<u32>,
+}
+
+impl Model for IndepTrees {
+    ghost use Rattle.std.specs.Prelude.{◌≡◌, length};
+    ghost use Rattle.indep_trees.specs.Trees.{Trees};
+
+    ghost Value = { Trees };
+
+    ghost view = { λ t. record { graph = record { nodes = t.node_count; links = t.links.items }; monitors = t.monitors; numbers = t.numbers.items; first = t.first.items; second = t.second.items; third = t.third.items } };
+
+    ghost invariant = { λ t. (length t.numbers.items ≡ t.node_count) × (length t.first.items ≡ t.node_count) × (length t.second.items ≡ t.node_count) × (length t.third.items ≡ t.node_count) };
+}
+
+impl IndepTrees {
+    /// The parent of a node that is no monitor, in the tree with this number.
+    pub fn parent(&self, tree: u32, v: u32) -> u32
+        requires tree { tree < 3 }
+        requires node { IsFree self.now.graph (has self.now.monitors) v }
+        ensures { result ≡ parent_in self.now tree v }
+    {
+        match tree {
+            0 => self.first[v as usize],
+            1 => self.second[v as usize],
+            _ => self.third[v as usize],
+        }
+    }
+
+    /// The number of a node.
+    pub fn number(&self, v: u32) -> u32
+        requires { v < self.now.graph.nodes }
+        ensures { result ≡ number_in self.now v }
+    {
+        self.numbers[v as usize]
+    }
+}
+
+/// Independent trees for monitors that identify.
+pub fn trees(alloc: Global, g: &Graph, m: &NodeSet) -> Result<IndepTrees, NoMemory>
+    requires connected { IsConnected g.now }
+    requires nodes { 3 ≤ g.now.nodes }
+    requires few_nodes { g.now.nodes ≤ 9998 }
+    requires few_links { length g.now.links + 2 * length m.now ≤ 20000 }
+    requires monitors { All (λ v. v < g.now.nodes) m.now }
+    requires identifies { Identifies g.now (has m.now) }
+    ensures graph { IfOk result (λ t. t.graph ≡ g.now) }
+    ensures monitors { IfOk result (λ t. t.monitors ≡ m.now) }
+    ensures trees { IfOk result AreTrees }
+{
+    Err(NoMemory)
+}

@@ -1,0 +1,13 @@
+pub mod Climbing
+pub mod Forests
+pub mod Naming
+pub mod Joined
+pub mod Weighing
+pub mod Laid
+pub mod Measured
+pub mod Trees
+pub mod Rooting
+pub mod TreePaths
+pub mod Laying
+pub mod PuttingNames
+pub mod Adding

@@ -1,0 +1,5 @@
+pub mod Roots
+pub mod Names
+pub mod Terms
+pub mod Measures
+pub mod Kept

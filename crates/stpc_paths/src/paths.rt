@@ -1,0 +1,118 @@
+// The path of each link.
+ghost use Rattle.std.specs.Prelude.{ℕ, ◌≡◌, ◌<◌, ◌≤◌, ◌*◌, ◌++◌, [], ◌∷◌, List, length, IfOk, OnOk, slice_index_or};
+ghost use Rattle.simple_path.specs.Pools.{nodes_in};
+ghost use Rattle.indep_trees.specs.Trees.{Climbs, IsFree, number_in, parent_in};
+ghost use Rattle.stpc_paths.specs.Roots.{tree_of, second_start, IsOwned};
+ghost use Rattle.stpc_paths.specs.Kept.{IsForest, monitor_in, AreRoots, IsPathOf, ArePathsOf};
+
+use crate::roots::{Root, next_tree, parent_of};
+use indep_trees::IndepTrees;
+use simple_path::PathPool;
+use std::alloc::Global;
+use tomo_base::{NoMemory, NodeSet};
+
+// Adds the path of a node in a tree: the node, its parent, and so on up to the first monitor.
+fn climb(
+    m: &NodeSet,
+    t: &IndepTrees,
+    nodes: u32,
+    tree: u32,
+    from: u32,
+    out: &mut Vec<u32>,
+) -> Result<(), NoMemory>
+    requires forest { IsForest t.now }
+    requires monitors { m.now ≡ t.now.monitors }
+    requires nodes { nodes ≡ t.now.graph.nodes }
+    requires tree { tree < 3 }
+    requires node { from < t.now.graph.nodes }
+    ensures { OnOk result ((p : List ℕ) → Climbs (monitor_in t.now) (parent_in t.now tree) from p → out.new.items ≡ out.old.items ++ from ∷ p) }
+{
+    let mut node = from;
+    for _ in 0..nodes {
+        out.push(node)?;
+        if m.has(node) {
+            return Ok(());
+        }
+        node = parent_of(t, tree, node);
+    }
+    unreachable!()
+}
+
+// The first tree of a path, and the node at which its second part begins.
+#[derive(Clone, Copy)]
+struct Start {
+    tree: u32,
+    second: u32,
+}
+
+// Where the path of the link with this root begins.
+fn start_of(t: &IndepTrees, root: Root) -> Start
+    requires forest { IsForest t.now }
+    requires node { root.node < t.now.graph.nodes }
+    requires other { root.other < t.now.graph.nodes }
+    requires owned { IsOwned (monitor_in t.now) (parent_in t.now) (number_in t.now) root.node root.other root.tree }
+    ensures first { result.tree ≡ tree_of root.tree }
+    ensures tree { result.tree < 3 }
+    ensures second { result.second ≡ second_start (parent_in t.now) root.node root.other root.tree }
+    ensures node { result.second < t.now.graph.nodes }
+{
+    match root.tree {
+        Some(tree) => Start {
+            tree,
+            second: parent_of(t, next_tree(tree), root.node),
+        },
+        None => Start {
+            tree: 0,
+            second: root.other,
+        },
+    }
+}
+
+// The path of the link with this root: up one tree from the node, turned round, and then up the next.
+fn path_of(
+    alloc: Global,
+    m: &NodeSet,
+    t: &IndepTrees,
+    nodes: u32,
+    root: Root,
+) -> Result<Vec<u32>, NoMemory>
+    requires forest { IsForest t.now }
+    requires monitors { m.now ≡ t.now.monitors }
+    requires nodes { nodes ≡ t.now.graph.nodes }
+    requires node { root.node < t.now.graph.nodes }
+    requires other { root.other < t.now.graph.nodes }
+    requires owned { IsOwned (monitor_in t.now) (parent_in t.now) (number_in t.now) root.node root.other root.tree }
+    ensures { IfOk result (λ p. IsPathOf t.now root p.items) }
+{
+    let start = start_of(t, root);
+    let mut path = Vec::new(alloc);
+    climb(m, t, nodes, start.tree, root.node, &mut path)?;
+    path.reverse();
+    climb(m, t, nodes, next_tree(start.tree), start.second, &mut path)?;
+    Ok(path)
+}
+
+/// Puts the path of each link into an empty pool, in the order of the links.
+pub fn lay_paths(
+    alloc: Global,
+    m: &NodeSet,
+    t: &IndepTrees,
+    nodes: u32,
+    roots: &[Root],
+    pool: &mut PathPool,
+) -> Result<(), NoMemory>
+    requires forest { IsForest t.now }
+    requires monitors { m.now ≡ t.now.monitors }
+    requires nodes { nodes ≡ t.now.graph.nodes }
+    requires few_nodes { nodes ≤ 10000 }
+    requires few_roots { length roots.now ≤ 20000 }
+    requires roots { AreRoots t.now t.now.graph.links roots.now }
+    requires empty { pool.old ≡ [] }
+    ensures { OnOk result (ArePathsOf t.now roots.now pool.new) }
+{
+    for root in roots {
+        let path = path_of(alloc, m, t, nodes, *root)?;
+        pool.add(&path)?;
+    }
+    Ok(())
+}

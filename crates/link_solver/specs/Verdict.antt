@@ -92,3 +92,9 @@ abbrev pub Means : Network → List (List ℕ) → List ℕ → List ℕ → Ans
 Means g paths sums out Solved = IsOnly g paths sums out
 Means g paths sums out (Link i why) = HasNone g paths sums
 Means g paths sums out (Path i) = HasNone g paths sums
+
+-- the answer names no path
+abbrev pub NamesNoPath : Answer → Type 0
+NamesNoPath Solved = Unit {0}
+NamesNoPath (Link i why) = Unit {0}
+NamesNoPath (Path i) = ⊥

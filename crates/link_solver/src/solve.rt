@@ -4,7 +4,9 @@ ghost use Rattle.tomo_base.specs.Sets.{has};
 ghost use Rattle.tomo_base.specs.Recipes.{gain_of, loss_of};
 ghost use Rattle.plan_form.specs.Good.{AreGoodPaths, AreGoodRecipes};
 ghost use Rattle.link_solver.specs.Verdict as spec;
-ghost use Rattle.link_solver.specs.Verdict.{why_not, halves, AllHaveDelays, HasSums, IsFirstLink, IsFirstPath, IsVerdict, Means};
+ghost use Rattle.link_solver.specs.Verdict.{why_not, halves, AllHaveDelays, HasSums, IsFirstLink, IsFirstPath, IsVerdict, Means, NamesNoPath};
+ghost use Rattle.link_solver.specs.declared.answer.Answer.TheVariants.{Solved};
+ghost use Rattle.plan_form.specs.Tied.{AreTied};
 
 use crate::answer::{Answer, Why};
 use crate::delays::Delays;
@@ -117,7 +119,8 @@ fn first_other(g: &Graph, paths: &PathPool, sums: &[u64], delays: &[u64]) -> Opt
 /// The doubled value of a link is the sum over its recipe of coefficient times sum. `Link` is the first link whose doubled value is
 /// not twice a delay, with the first reason of `Odd`, `Negative` and `Large`. `Path` is the first path along which the halves of the
 /// doubled values do not add up to its sum. Either means that no assignment has these sums. `Solved` means that one has, and `out`
-/// has it then; after another answer `out` has any numbers. It takes no memory: a pass over the terms of all recipes, and one over
+/// has it then; after another answer `out` has any numbers. Over a tied plan the answer is never `Path`: where each link has a delay,
+/// the round is solved. It takes no memory: a pass over the terms of all recipes, and one over
 /// the links of all paths.
 pub fn solve_into(g: &Graph, p: &Plan, sums: &[u64], out: &mut Delays) -> Answer
     requires paths { AreGoodPaths g.now (has p.now.monitors) p.now.paths }
@@ -126,8 +129,11 @@ pub fn solve_into(g: &Graph, p: &Plan, sums: &[u64], out: &mut Delays) -> Answer
     requires one_each { length out.old ≡ length g.now.links }
     ensures verdict { IsVerdict g.now p.now.paths p.now.recipes sums.now out.new result }
     ensures means { Means g.now p.now.paths sums.now out.new result }
+    ensures no_path { AreTied g.now.links p.now.paths p.now.recipes → NamesNoPath result }
+    ensures solved { AreTied g.now.links p.now.paths p.now.recipes → AllHaveDelays sums.now p.now.recipes → result ≡ Solved }
     ensures same_length { length out.new ≡ length out.old }
 {
+    let _nodes = g.nodes();
     if let Err((link, why)) = fill_in(p.recipes(), sums, out) {
         return Answer::Link(link, why);
     }

@@ -1,5 +1,6 @@
-use Rattle.std.proofs.Common.{arith}
+use Rattle.std.proofs.Common.{[], arith}
 use Rattle.link_solver.specs.declared.answer.Answer.TheVariants.{Solved, Link, Path}
+use Rattle.link_solver.proofs.Agreeing.{tied_names_no_path}
 use Rattle.link_solver.proofs.Solving.{one_or_none, halves_fit}
 use Rattle.link_solver.proofs.solve.solve_into.Goals as goal
 
@@ -23,3 +24,11 @@ pub returns-in-None-clause-means : goal.returns-in-None-clause-means
 returns-in-None-clause-means c =
     one_or_none c.args.g.now c.args.p.now.paths c.args.p.now.recipes c.args.sums.now c.fill_in.new.out Solved c.requires.recipes
     (rw c.recipes.ensures.recipes at c.in_default.ensures.all, rw (c.paths.ensures.paths, c.as_slice.ensures, c.in_default.ensures.halves, c.recipes.ensures.recipes) at c.in-None.ensures.none, rw c.recipes.ensures.recipes at c.in_default.ensures.halves)
+
+pub returns-in-Some-clause-no_path : goal.returns-in-Some-clause-no_path
+returns-in-Some-clause-no_path c = λ tied.
+    tied_names_no_path c.args.g.now c.args.p.now.paths c.args.p.now.recipes c.args.sums.now c.fill_in.new.out (Path c.in-Some.path) c.nodes-nodes.ensures.graph (λ i l. (c.requires.paths.each i [] l).linked) c.requires.recipes tied
+    (rw c.recipes.ensures.recipes at c.in_default.ensures.all, rw (c.paths.ensures.paths, c.as_slice.ensures, c.in_default.ensures.halves, c.recipes.ensures.recipes) at c.in-Some.ensures.found)
+
+pub returns-in-Some-clause-solved : goal.returns-in-Some-clause-solved
+returns-in-Some-clause-solved c = λ tied all. absurd (returns-in-Some-clause-no_path c tied)

@@ -1,16 +1,16 @@
 -- A turn in which a further part is left gives a better candidate.
-use Rattle.std.proofs.Common.{◌≡◌, ◌≢◌, ◌⊎◌, ℕ, suc, ◌+◌, ◌-◌, ◌<◌, ◌≤◌, Bool, true, false, not, ◌&&◌, List, length, All, refl, sym, subst, ap, ◌∙◌, inl, inr, arith}
+use Rattle.std.proofs.Common.{◌≡◌, ◌≢◌, ℕ, ◌-◌, ◌<◌, ◌≤◌, Bool, true, false, not, List, length, All, sym, subst, inl, inr, arith}
 use Rattle.std.specs.List.{AllWithin}
-use Rattle.std.proofs.lemmas.Bool.{cases_eq, both_ways, and_parts, and_from, not-true, not_from_false, false_from_ne_true}
+use Rattle.std.proofs.lemmas.Bool.{both_ways, and_parts, and_from, not-true, not_from_false}
 use Rattle.tomo_base.specs.Network.{Network, linked, IsGraph}
-use Rattle.tomo_base.specs.Sets.{touches, outside}
+use Rattle.tomo_base.specs.Sets.{touches}
 use Rattle.tomo_base.specs.Cuts.{IsThreeConnected}
 use Rattle.tomo_base.specs.Search.{entry_at}
 use Rattle.tomo_base.proofs.Ascending.{All-from_has, place_in}
 use Rattle.ear_order.specs.Ears.{IsEar}
 use Rattle.ear_order.specs.Turns.{between, border, HasTwo, IsPart, IsTurn, IsBetter, IsSpot, IsEither, Zone, Touches}
 use Rattle.ear_order.proofs.Spreading.{touch_from, touch_gives, off}
-use Rattle.ear_order.proofs.Places.{EarAt, run_gives, run_not}
+use Rattle.ear_order.proofs.Places.{EarAt, run_not}
 use Rattle.ear_order.proofs.Lists.{ear_at}
 use Rattle.ear_order.proofs.Rounds.{kept_off, three_touch}
 use Rattle.ear_order.proofs.Spots.{either_ear, either_turn}

@@ -1,14 +1,14 @@
 -- An ear as a list and by its places.
-use Rattle.std.proofs.Common.{◌≡◌, ◌⊎◌, ℕ, zero, suc, ◌+◌, ◌-◌, ◌<◌, ◌≤◌, Bool, true, false, ◌||◌, List, [], ◌∷◌, length, get_or, refl, sym, subst, ap, ◌∙◌, inl, inr, arith}
+use Rattle.std.proofs.Common.{◌≡◌, ◌⊎◌, ℕ, zero, suc, ◌-◌, ◌<◌, Bool, true, false, List, [], ◌∷◌, length, refl, sym, subst, ap, ◌∙◌, inl, inr, arith}
 use Rattle.std.specs.List.{AllWithin}
-use Rattle.std.proofs.lemmas.Bool.{cases_eq, both_ways, false_from_ne_true, or_cases, or_left, or_right}
+use Rattle.std.proofs.lemmas.Bool.{cases_eq, both_ways, false_from_ne_true}
 use Rattle.std.proofs.lemmas.List.{get_or_default}
 use Rattle.tomo_base.specs.Network.{Network, linked}
 use Rattle.tomo_base.specs.Sets.{has}
-use Rattle.tomo_base.specs.Walks.{StepsFrom, IsWalk, EndsIn, end_of, NoneTwice}
+use Rattle.tomo_base.specs.Walks.{StepsFrom, end_of, NoneTwice}
 use Rattle.tomo_base.specs.Search.{entry_at}
 use Rattle.tomo_base.proofs.Ascending.{place_in, has-at}
-use Rattle.ear_order.specs.Ears.{IsEar, with_ear}
+use Rattle.ear_order.specs.Ears.{IsEar}
 use Rattle.ear_order.specs.Turns.{between}
 use Rattle.ear_order.proofs.Places.{EarAt, run_at, run_gives}
 

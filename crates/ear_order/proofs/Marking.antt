@@ -1,7 +1,7 @@
 -- Marks of the nodes of a list, and of the nodes that are left.
-use Rattle.std.proofs.Common.{◌≡◌, ℕ, ◌+◌, ◌<◌, ◌≤◌, Bool, true, false, not, ◌||◌, ◌==◌, cond, List, [], ◌∷◌, ◌++◌, length, get_or, set, take, replicate, refl, sym, ap, ◌∙◌, inl, inr, arith, get_or-set_same, get_or-set_other}
-use Rattle.std.proofs.lemmas.Bool.{cases_Bool, cases_eq, cases_lt, both_ways, eq-eqb, ne_eqb}
-use Rattle.std.proofs.lemmas.List.{take_more, get_or_past, get_or_append_left, get_or_push, length_push, get_or-replicate, length-replicate}
+use Rattle.std.proofs.Common.{◌≡◌, ℕ, ◌+◌, ◌<◌, Bool, true, false, not, ◌||◌, cond, List, [], ◌∷◌, ◌++◌, length, get_or, set, take, replicate, refl, sym, ap, ◌∙◌, inl, inr, arith, get_or-set_same, get_or-set_other}
+use Rattle.std.proofs.lemmas.Bool.{cases_eq, cases_lt, both_ways, eq-eqb, ne_eqb}
+use Rattle.std.proofs.lemmas.List.{take_more, get_or_past, get_or_append_left, get_or_push, get_or-replicate, length-replicate}
 use Rattle.tomo_base.specs.Search.{mark_of}
 use Rattle.tomo_base.specs.Sets.{has}
 use Rattle.tomo_base.proofs.Members.{has-append}

@@ -1,6 +1,6 @@
 -- A better candidate in each of three cases: the zone in which a crossing path exists, by what a further part touches.
-use Rattle.std.proofs.Common.{◌≡◌, ◌⊎◌, ℕ, zero, suc, ◌+◌, ◌-◌, ◌<◌, ◌≤◌, Bool, true, false, refl, sym, subst, ap, ◌∙◌, inl, inr, arith}
-use Rattle.std.proofs.lemmas.Bool.{cases_Bool, cases_eq, cases_order, both_ways, false_from_ne_true}
+use Rattle.std.proofs.Common.{◌≡◌, ◌⊎◌, ℕ, zero, suc, ◌-◌, ◌<◌, ◌≤◌, Bool, true, false, sym, subst, ap, ◌∙◌, inl, inr, arith}
+use Rattle.std.proofs.lemmas.Bool.{cases_order, both_ways, false_from_ne_true}
 use Rattle.tomo_base.specs.Network.{Network, linked, IsGraph}
 use Rattle.tomo_base.specs.Walks.{IsConnectedIn}
 use Rattle.tomo_base.proofs.Links.{linked_comm}

@@ -1,24 +1,20 @@
 -- Ear orders: what is left while a node is in no ear, one ear more, the first ear, and how many ears there are at most.
-use Rattle.std.proofs.Common.{◌≡◌, ◌≢◌, ◌⊎◌, ℕ, zero, suc, ◌+◌, ◌-◌, ◌<◌, ◌≤◌, Bool, true, false, ◌||◌, ◌==◌, List, [], ◌∷◌, ◌++◌, length, reverse, get_or, All, IsTrue, refl, sym, subst, ap, ◌∙◌, inl, inr, arith}
-use Rattle.std.proofs.lemmas.Bool.{cases_Bool, cases_eq, both_ways, or_cases, or_left, or_right, or_from, eqb-true, eq-eqb, ne_eqb, false_from_ne_true, not_from_false, not-true}
-use Rattle.std.proofs.lemmas.List.{length-reverse, get_or_default}
+use Rattle.std.proofs.Common.{◌≡◌, ◌≢◌, ℕ, zero, suc, ◌+◌, ◌-◌, ◌<◌, ◌≤◌, Bool, true, false, ◌||◌, ◌==◌, List, [], ◌∷◌, ◌++◌, length, get_or, All, refl, sym, subst, ap, ◌∙◌, inl, inr, arith}
+use Rattle.std.proofs.lemmas.Bool.{both_ways, or_cases, or_left, or_right, eqb-true, not_from_false, not-true}
+use Rattle.std.proofs.lemmas.List.{get_or_default}
 use Rattle.tomo_base.specs.declared.graph.Link.{Link}
 use Rattle.tomo_base.specs.Network.{Network, linked, joins, any_joins, AreLinks, IsGraph}
 use Rattle.tomo_base.specs.Sets.{has, count, complement, touches}
 use Rattle.tomo_base.specs.Walks.{IsConnectedIn}
-use Rattle.tomo_base.specs.Cuts.{IsThreeConnected}
 use Rattle.tomo_base.specs.Search.{mark_of, entry_at}
-use Rattle.tomo_base.proofs.Links.{linked_below, joins_gives}
+use Rattle.tomo_base.proofs.Links.{joins_gives}
 use Rattle.tomo_base.proofs.Counts.{count-less, count-le}
-use Rattle.tomo_base.proofs.Ascending.{place_in, has-at}
-use Rattle.ear_order.specs.Ears.{IsEar, GoesOn, IsLast, with_ear, AreEarsAfter, ends_of, BeginsWith, IsEarOrder, in_ears, IsWhole, AreEnds, IsOrder, Ears}
-use Rattle.ear_order.specs.Turns.{between, IsLeft, IsEither, ContinuesWith}
+use Rattle.tomo_base.proofs.Ascending.{has-at}
+use Rattle.ear_order.specs.Ears.{IsEar, GoesOn, IsLast, with_ear, AreEarsAfter, ends_of, IsEarOrder, in_ears, AreEnds, IsOrder, Ears}
+use Rattle.ear_order.specs.Turns.{between, IsLeft, ContinuesWith}
 use Rattle.ear_order.proofs.Spreading.{connected_same, touch_from, touch_gives}
-use Rattle.ear_order.proofs.Outer.{pair, connected_without}
 use Rattle.ear_order.proofs.Places.{run_at, run_gives}
-use Rattle.ear_order.proofs.Lists.{ear_at, has_between}
-use Rattle.ear_order.proofs.Turned.{tests_agree, entry_reverse, reverse_ear}
-use Rattle.ear_order.proofs.Spots.{either_ear, ear_below, ear_all}
+use Rattle.ear_order.proofs.Spots.{ear_below, ear_all}
 
 -- the set with the nodes of the ears
 unfoldable pub after : (ℕ → Bool) → List (List ℕ) → ℕ → Bool

@@ -1,8 +1,8 @@
 -- In a graph that stays connected without any two nodes, a set with three nodes outside it has three outside neighbours.
-use Rattle.std.proofs.Common.{◌≡◌, ◌⊎◌, ℕ, ◌+◌, ◌<◌, ◌≤◌, Bool, true, false, not, ◌&&◌, ◌||◌, ◌==◌, refl, sym, subst, ap, ◌∙◌, inl, inr, arith}
+use Rattle.std.proofs.Common.{◌≡◌, ℕ, ◌+◌, ◌<◌, ◌≤◌, Bool, true, false, not, ◌&&◌, ◌||◌, ◌==◌, refl, sym, subst, ◌∙◌, inl, inr, arith}
 use Rattle.std.proofs.lemmas.Bool.{cases_Bool, cases_eq, cases_lt, both_ways, and_from, and_parts, or_from, not_from_false, not-true, eq-eqb, ne_eqb, eqb-true, false_from_ne_true}
-use Rattle.tomo_base.specs.Network.{Network, linked, IsGraph}
-use Rattle.tomo_base.specs.Sets.{one_if, count, size, touches, complement}
+use Rattle.tomo_base.specs.Network.{Network, IsGraph}
+use Rattle.tomo_base.specs.Sets.{one_if, count, touches, complement}
 use Rattle.tomo_base.specs.Cuts.{IsThreeConnected}
 use Rattle.tomo_base.specs.Walks.{IsConnectedIn}
 use Rattle.tomo_base.proofs.Links.{linked_below}

@@ -1,11 +1,10 @@
 -- What a search from one node reaches is its part: connected, and closed among the free nodes.
-use Rattle.std.proofs.Common.{◌≡◌, ℕ, zero, suc, ◌+◌, ◌<◌, ◌≤◌, Bool, true, List, [], ◌∷◌, length, get_or, refl, sym, subst, ap, ◌∙◌, inl, inr, arith}
-use Rattle.std.proofs.lemmas.Bool.{cases_lt}
+use Rattle.std.proofs.Common.{◌≡◌, ℕ, zero, suc, ◌+◌, ◌<◌, Bool, true, List, [], ◌∷◌, length, get_or, sym, subst, ap, ◌∙◌, arith}
 use Rattle.tomo_base.specs.declared.graph.Hop.{Hop}
 use Rattle.tomo_base.specs.Network.{Network, linked, IsGraph}
 use Rattle.tomo_base.specs.Sets.{has}
-use Rattle.tomo_base.specs.Table.{JoinsAt, AreHops}
-use Rattle.tomo_base.specs.Walks.{Reaches, IsConnectedIn}
+use Rattle.tomo_base.specs.Table.{AreHops}
+use Rattle.tomo_base.specs.Walks.{Reaches}
 use Rattle.tomo_base.specs.Search.{mark_of, entry_at, IsSearch}
 use Rattle.tomo_base.proofs.Links.{linked_below}
 use Rattle.tomo_base.proofs.Rows.{any_joins-from, any_joins_gives}

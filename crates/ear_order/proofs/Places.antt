@@ -1,9 +1,8 @@
 -- An ear by its places: the facts of an ear, and the test for the nodes at some of its places.
-use Rattle.std.proofs.Common.{◌≡◌, ℕ, suc, ◌-◌, ◌<◌, ◌≤◌, Bool, true, false, ◌&&◌, ◌==◌, leb, refl, sym, subst, inl, inr, arith}
+use Rattle.std.proofs.Common.{◌≡◌, ℕ, suc, ◌<◌, ◌≤◌, Bool, true, false, ◌&&◌, ◌==◌, leb, refl, sym, inl, inr, arith}
 use Rattle.std.proofs.lemmas.Bool.{and_parts, and_from, leb-true, le-leb, eqb-true, eq-eqb, false_from_ne_true, cases_order}
 use Rattle.tomo_base.specs.Network.{Network, linked}
-use Rattle.tomo_base.specs.Sets.{any_below}
-use Rattle.ear_order.specs.Turns.{run, inner}
+use Rattle.ear_order.specs.Turns.{run}
 use Rattle.tomo_base.proofs.Counts.{any_below-from, any_below_gives}
 
 -- p 0 .. p last is an ear for D: a path between two nodes of D whose inner nodes, at least one, are not in D

@@ -1,5 +1,5 @@
 -- A search through a zone from the neighbours of a node, and the path that leads back from what it reached.
-use Rattle.std.proofs.Common.{◌≡◌, ◌≢◌, ◌⊎◌, ℕ, zero, suc, ◌+◌, ◌-◌, ◌<◌, ◌≤◌, Bool, true, false, ◌||◌, ◌==◌, List, [], ◌∷◌, ◌++◌, length, get_or, All, AllPairs, refl, sym, subst, ap, ◌∙◌, inl, inr, arith}
+use Rattle.std.proofs.Common.{◌≡◌, ◌≢◌, ◌⊎◌, ℕ, suc, ◌+◌, ◌-◌, ◌<◌, ◌≤◌, Bool, true, false, ◌||◌, ◌==◌, List, [], ◌∷◌, ◌++◌, length, get_or, AllPairs, refl, sym, subst, ap, ◌∙◌, inl, inr, arith}
 use Rattle.std.proofs.lemmas.Bool.{cases_eq, cases_lt, both_ways, or_cases, or_left, or_right, eqb-true, eq-eqb, false≢true}
 use Rattle.std.proofs.lemmas.List.{get_or_default, get_or_append_left, get_or_push, length_push}
 use Rattle.std.proofs.lemmas.List.Quantifiers.{all_pairs_push}
@@ -71,10 +71,10 @@ pub seeding_more : (g : Network) (zone : List Bool) (e : ℕ) (hops : List Hop) 
     → Seeding g zone e hops i seeds → Seeding g zone e hops (i + 1) (seeds ++ w ∷ [])
 seeding_more g zone e hops i w seeds d₀ are l is in_zone s =
     let new : (v : ℕ) → has seeds v ≡ true → v ≢ w = λ v h same.
-        let k = s.earlier v h in
-        let below : (get_or hops k.0 d₀).node < (get_or hops i d₀).node = are.ascending k.0 i d₀ k.2 l in
-        let at : (get_or hops k.0 d₀).node ≡ (get_or hops k.0 k.1).node = ap (λ (z : Hop). z.node) (get_or_default hops k.0 d₀ k.1 (omega (arith, k.2, l))) in
-        omega (arith, below, at, k.3, same, is) in
+    let k = s.earlier v h in
+    let below : (get_or hops k.0 d₀).node < (get_or hops i d₀).node = are.ascending k.0 i d₀ k.2 l in
+    let at : (get_or hops k.0 d₀).node ≡ (get_or hops k.0 k.1).node = ap (λ (z : Hop). z.node) (get_or_default hops k.0 d₀ k.1 (omega (arith, k.2, l))) in
+    omega (arith, below, at, k.3, same, is) in
     let cases : (v : ℕ) → has (seeds ++ w ∷ []) v ≡ true → (has seeds v ≡ true) ⊎ (w ≡ v) = λ v h. elim (or_cases (has seeds v) (w == v) (sym (has-push seeds w v) ∙ h)) [ inl a ↦ inl a | inr b ↦ inr (eqb-true w v b) ] in
     record {
       each = λ v h. elim (cases v h) [
@@ -177,8 +177,8 @@ trailing_more g e s z path v leads other t = elim (leads.back v t.here) [
           rw (at_before path v i (omega (arith, l, length_push path v)), at_last path v (suc i) (omega (arith, l, ge, length_push path v))) (subst (λ k. linked g (entry_at path k) v ≡ true) (sym last) t.next)
     ];
     next =
-      let last : length (path ++ v ∷ []) - 1 ≡ length path = omega (arith, length_push path v) in
-      subst (λ k. linked g k (entry_at s.parent.items v) ≡ true) (sym (at_last path v (length (path ++ v ∷ []) - 1) last)) (linked_comm g (entry_at s.parent.items v) v b.2);
+        let last : length (path ++ v ∷ []) - 1 ≡ length path = omega (arith, length_push path v) in
+        subst (λ k. linked g k (entry_at s.parent.items v) ≡ true) (sym (at_last path v (length (path ++ v ∷ []) - 1) last)) (linked_comm g (entry_at s.parent.items v) v b.2);
     here = b.0;
   }
 ]

@@ -1,15 +1,15 @@
 -- The first candidate and the last ear: what is left touches two old nodes.
-use Rattle.std.proofs.Common.{◌≡◌, ◌≢◌, ◌⊎◌, ℕ, ◌<◌, ◌≤◌, Bool, true, false, ◌||◌, ◌==◌, List, [], ◌∷◌, length, set, All, get_or-set_same, get_or-set_other, refl, sym, subst, ap, ◌∙◌, inl, inr, arith}
+use Rattle.std.proofs.Common.{◌≡◌, ◌⊎◌, ℕ, ◌<◌, Bool, true, false, ◌==◌, List, [], ◌∷◌, length, set, All, get_or-set_same, get_or-set_other, refl, sym, subst, ap, ◌∙◌, inl, inr, arith}
 use Rattle.std.proofs.lemmas.Bool.{cases_Bool, cases_eq, both_ways, eq-eqb, ne_eqb, eqb-true, or_left, or_right, false_from_ne_true, not-true, not_from_false}
 use Rattle.tomo_base.specs.Network.{Network, linked, IsGraph}
-use Rattle.tomo_base.specs.Sets.{has, touches}
+use Rattle.tomo_base.specs.Sets.{has}
 use Rattle.tomo_base.specs.Walks.{IsConnectedIn}
 use Rattle.tomo_base.specs.Search.{mark_of, entry_at}
 use Rattle.tomo_base.proofs.Ascending.{All-from_has, place_in}
-use Rattle.tomo_base.proofs.Links.{linked_comm, linked_below}
-use Rattle.ear_order.specs.Ears.{IsEar, IsLast, with_ear}
+use Rattle.tomo_base.proofs.Links.{linked_comm}
+use Rattle.ear_order.specs.Ears.{IsEar, IsLast}
 use Rattle.ear_order.specs.Crossing.{Crosses}
-use Rattle.ear_order.specs.Turns.{IsLeft, AreLeft, IsPart, HasTwo, Touches}
+use Rattle.ear_order.specs.Turns.{IsLeft, AreLeft, IsPart, Touches}
 use Rattle.ear_order.proofs.Spreading.{touch_gives, off}
 use Rattle.ear_order.proofs.Outer.{another, three_beside}
 use Rattle.ear_order.proofs.Zones.{two_ends}

@@ -1,7 +1,7 @@
 -- The nodes of an ear at some of its places, as marks, and the places that touch a part.
-use Rattle.std.proofs.Common.{◌≡◌, ◌≢◌, ◌⊎◌, ℕ, zero, suc, ◌+◌, ◌-◌, ◌<◌, ◌≤◌, Bool, true, false, not, ◌&&◌, cond, Option, Some, None, IfSome, IfNone, List, length, reverse, take, drop, get_or, All, refl, sym, subst, ap, ◌∙◌, inl, inr, arith}
+use Rattle.std.proofs.Common.{◌≡◌, ◌⊎◌, ℕ, suc, ◌+◌, ◌-◌, ◌<◌, ◌≤◌, Bool, true, false, not, cond, Option, Some, None, IfSome, IfNone, List, length, reverse, take, drop, get_or, All, refl, sym, subst, ap, ◌∙◌, inl, inr, arith}
 use Rattle.std.specs.Option.{is_some}
-use Rattle.std.proofs.lemmas.Bool.{cases_Bool, cases_eq, cases_lt, both_ways, and_from, and_parts, not-true, not_from_false, false_from_ne_true}
+use Rattle.std.proofs.lemmas.Bool.{cases_eq, both_ways, and_from, not_from_false, false_from_ne_true}
 use Rattle.std.proofs.lemmas.List.{get_or-take, get_or-drop, length-take-le, length-drop, get_or_default}
 use Rattle.tomo_base.specs.Network.{Network, linked, IsGraph}
 use Rattle.tomo_base.specs.Sets.{has, touches, outside}
@@ -10,8 +10,7 @@ use Rattle.tomo_base.proofs.Links.{linked_below}
 use Rattle.tomo_base.proofs.Ascending.{place_in, has-at}
 use Rattle.tomo_base.proofs.Touching.{touches-from, touches_gives}
 use Rattle.ear_order.specs.Ears.{IsEar}
-use Rattle.ear_order.specs.Turns.{IsSpot, IsEither, IsTurn, Zone}
-use Rattle.ear_order.proofs.Places.{EarAt}
+use Rattle.ear_order.specs.Turns.{IsEither, IsTurn, Zone}
 use Rattle.ear_order.proofs.Lists.{ear_at}
 use Rattle.ear_order.proofs.Turned.{reverse_ear, reverse_turn, entry_reverse}
 

@@ -1,14 +1,13 @@
 -- The first ear of an order.
-use Rattle.std.proofs.Common.{◌≡◌, ◌≢◌, ◌⊎◌, ℕ, suc, ◌+◌, ◌-◌, ◌<◌, ◌≤◌, Bool, true, false, ◌||◌, ◌==◌, List, [], ◌∷◌, length, set, replicate, reverse, get_or-set_same, get_or-set_other, length-set, refl, sym, subst, ap, ap₂, ◌∙◌, inl, inr, arith}
-use Rattle.std.proofs.lemmas.Bool.{cases_Bool, cases_eq, both_ways, or_cases, or_left, or_right, eqb-true, eq-eqb, ne_eqb}
+use Rattle.std.proofs.Common.{◌≡◌, ◌≢◌, ◌⊎◌, ℕ, ◌-◌, ◌<◌, ◌≤◌, Bool, true, false, ◌||◌, ◌==◌, List, [], ◌∷◌, length, set, replicate, reverse, get_or-set_same, get_or-set_other, length-set, refl, sym, subst, ap, ap₂, ◌∙◌, inl, inr, arith}
+use Rattle.std.proofs.lemmas.Bool.{cases_Bool, cases_eq, both_ways, or_cases, or_left, or_right, eqb-true, eq-eqb}
 use Rattle.std.proofs.lemmas.List.{length-replicate, length-reverse}
-use Rattle.tomo_base.specs.Network.{Network, linked, IsGraph}
+use Rattle.tomo_base.specs.Network.{Network, IsGraph}
 use Rattle.tomo_base.specs.Sets.{has, complement}
 use Rattle.tomo_base.specs.Cuts.{IsThreeConnected}
 use Rattle.tomo_base.specs.Search.{mark_of, entry_at}
-use Rattle.tomo_base.proofs.Links.{linked_below}
 use Rattle.tomo_base.proofs.Ascending.{place_in, has-at}
-use Rattle.ear_order.specs.Ears.{IsEar, GoesOn, IsLast, with_ear, AreEarsAfter, ends_of, AreEnds, IsOrder}
+use Rattle.ear_order.specs.Ears.{IsEar, GoesOn, IsLast, with_ear, ends_of, AreEnds, IsOrder}
 use Rattle.ear_order.specs.Turns.{between, IsLeft, IsEither, ContinuesWith}
 use Rattle.ear_order.proofs.Spreading.{connected_same}
 use Rattle.ear_order.proofs.Outer.{pair, connected_without}

@@ -1,13 +1,13 @@
 -- An ear read from its other end.
-use Rattle.std.proofs.Common.{◌≡◌, ◌⊎◌, ℕ, suc, ◌+◌, ◌-◌, ◌<◌, ◌≤◌, Bool, true, false, List, length, reverse, refl, sym, subst, ap, ◌∙◌, inl, inr, arith}
+use Rattle.std.proofs.Common.{◌≡◌, ℕ, suc, ◌-◌, ◌<◌, ◌≤◌, Bool, true, List, length, reverse, sym, subst, ap, ◌∙◌, inl, inr, arith}
 use Rattle.std.proofs.lemmas.Bool.{cases_Bool, both_ways, false_from_ne_true}
 use Rattle.std.proofs.lemmas.List.{get_or-reverse, length-reverse}
-use Rattle.tomo_base.specs.Network.{Network, linked}
+use Rattle.tomo_base.specs.Network.{Network}
 use Rattle.tomo_base.specs.Search.{entry_at}
 use Rattle.tomo_base.proofs.Links.{linked_comm}
 use Rattle.ear_order.specs.Ears.{IsEar}
-use Rattle.ear_order.specs.Turns.{between, Round, IsTurn}
-use Rattle.ear_order.proofs.Places.{EarAt, run_at, run_gives}
+use Rattle.ear_order.specs.Turns.{between, IsTurn}
+use Rattle.ear_order.proofs.Places.{run_at, run_gives}
 use Rattle.ear_order.proofs.Lists.{ear_at, ear_from}
 
 -- the places of a turned list

@@ -1,15 +1,14 @@
 -- The loop of the search for the next ear: what each turn keeps, and why the part of u grows.
-use Rattle.std.proofs.Common.{◌≡◌, ◌≢◌, ◌⊎◌, ℕ, zero, suc, ◌+◌, ◌-◌, ◌<◌, ◌≤◌, Bool, true, false, not, ◌&&◌, ◌||◌, ◌==◌, cond, List, [], ◌∷◌, ◌++◌, length, get_or, set, take, All, get_or-set_same, get_or-set_other, refl, sym, subst, ap, ◌∙◌, inl, inr, arith}
-use Rattle.std.proofs.lemmas.Bool.{cases_Bool, cases_eq, cases_lt, both_ways, and_parts, and_from, or_cases, or_left, or_right, not-true, not_from_false, false_from_ne_true, eq-eqb, eqb-true}
+use Rattle.std.proofs.Common.{◌≡◌, ◌≢◌, ◌⊎◌, ℕ, ◌+◌, ◌-◌, ◌<◌, ◌≤◌, Bool, true, false, not, ◌&&◌, ◌||◌, ◌==◌, cond, List, [], ◌∷◌, ◌++◌, length, get_or, set, take, All, get_or-set_same, get_or-set_other, refl, sym, subst, ap, ◌∙◌, inl, inr, arith}
+use Rattle.std.proofs.lemmas.Bool.{cases_Bool, cases_eq, both_ways, and_parts, and_from, or_cases, or_left, or_right, not-true, not_from_false, false_from_ne_true, eq-eqb, eqb-true}
 use Rattle.std.proofs.lemmas.List.{take_more, get_or_default}
 use Rattle.tomo_base.specs.declared.graph.Hop.{Hop}
 use Rattle.tomo_base.specs.Network.{Network, linked, IsGraph}
-use Rattle.tomo_base.specs.Sets.{has, count, touches, complement}
+use Rattle.tomo_base.specs.Sets.{has, count, complement}
 use Rattle.tomo_base.specs.Table.{AreHops}
 use Rattle.tomo_base.specs.Search.{mark_of, entry_at}
-use Rattle.tomo_base.proofs.Links.{linked_below}
 use Rattle.tomo_base.proofs.Counts.{count-less}
-use Rattle.tomo_base.proofs.Ascending.{place_in, has-at, All-from_has}
+use Rattle.tomo_base.proofs.Ascending.{place_in, All-from_has}
 use Rattle.ear_order.specs.Ears.{IsEar, GoesOn, with_ear}
 use Rattle.ear_order.specs.Turns.{between, border, IsLeft, AreLeft, IsPart, Round, IsTurn, IsBetter, IsClear, IsBeyond}
 use Rattle.ear_order.proofs.Spreading.{spreads, connected_same, touch_from, touch_gives}
@@ -44,11 +43,14 @@ clearing_more before marks v x hops i e l is below c = record {
   kept = λ w h. elim (cases_eq w x) [
     | inl same ↦ absurd (both_ways (mark_of (set marks x false) w) (ap (mark_of (set marks x false)) same ∙ get_or-set_same marks x false false below) h)
     | inr other ↦
-        let old = c.kept w (sym (get_or-set_other marks x w false false other) ∙ h) in
-        (old.0, old.1, λ k d lt at. elim (cases_eq k i) [
-          | inl same ↦ other (sym at ∙ (ap (λ (z : Hop). z.node) (ap (λ z. get_or hops z d) same ∙ get_or_default hops i d e l) ∙ sym is))
-          | inr before_i ↦ old.2 k d (omega arith) at
-        ])
+        let old = c.kept w (sym (get_or-set_other marks x w false false other) ∙ h) in (
+          old.0,
+          old.1,
+          λ k d lt at. elim (cases_eq k i) [
+            | inl same ↦ other (sym at ∙ (ap (λ (z : Hop). z.node) (ap (λ z. get_or hops z d) same ∙ get_or_default hops i d e l) ∙ sym is))
+            | inr before_i ↦ old.2 k d (omega arith) at
+          ],
+        )
   ];
   rest = λ w h other none.
       let apart : w ≢ x = λ same. none i e (omega arith) (sym is ∙ sym same) in
@@ -200,15 +202,15 @@ module _ (g : Network) (graph : IsGraph g) (old rest : List Bool) (u : ℕ) (lef
               k.0,
               false_from_ne_true (C w) (λ c. (k.1 w (p.listed w c)).0 refl),
               false_from_ne_true (border g (mark_of rest) C w) (λ at.
-              let y = touch_gives g C w (border_parts g graph (mark_of old) (mark_of rest) (between e) C u round_from w at).2 in
-              both_ways (linked g y.0 w) (k.1 y.0 (p.listed y.0 y.1)).1 y.2),
+                  let y = touch_gives g C w (border_parts g graph (mark_of old) (mark_of rest) (between e) C u round_from w at).2 in
+                  both_ways (linked g y.0 w) (k.1 y.0 (p.listed y.0 y.1)).1 y.2),
             )
 
         others_from : (w : ℕ) → mark_of rest w ≡ true → C w ≡ false → border g (mark_of rest) C w ≡ false → others w ≡ true
         others_from w r c n = b.rest w r (λ v h. (
           λ same. both_ways (C w) c (subst (λ z. C z ≡ true) (sym same) (part_has v h)),
           false_from_ne_true (linked g v w) (λ l. both_ways (border g (mark_of rest) C w) n
-          (border_from g graph (mark_of old) (mark_of rest) (between e) C u round_from w r c (touch_from g graph C v w (part_has v h) l))),
+              (border_from g graph (mark_of old) (mark_of rest) (between e) C u round_from w r c (touch_from g graph C v w (part_has v h) l))),
         ))
 
         -- a part of them makes a turn

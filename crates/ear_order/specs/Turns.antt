@@ -1,6 +1,6 @@
 -- The search for an ear, turn by turn: a candidate, the part of the third node that it leaves, and a better candidate.
-use Rattle.std.specs.Prelude.{ℕ, ◌≡◌, ◌≢◌, ◌+◌, ◌-◌, ◌<◌, ◌≤◌, ◌⊎◌, Bool, true, false, not, ◌&&◌, ◌||◌, ◌==◌, leb, List, length, reverse, All}
-use Rattle.tomo_base.specs.Network.{Network, linked, IsGraph}
+use Rattle.std.specs.Prelude.{ℕ, ◌≡◌, ◌≢◌, ◌-◌, ◌<◌, ◌≤◌, ◌⊎◌, Bool, true, false, not, ◌&&◌, ◌==◌, leb, List, length, reverse}
+use Rattle.tomo_base.specs.Network.{Network, linked}
 use Rattle.tomo_base.specs.Sets.{has, any_below, touches, outside, complement}
 use Rattle.tomo_base.specs.Walks.{IsConnectedIn}
 use Rattle.tomo_base.specs.Cuts.{IsThreeConnected}

@@ -56,13 +56,7 @@ fn last_marked(nodes: &[u32], marks: &[bool]) -> Option<u32>
 }
 
 // The part of `u` in what an ear leaves.
-fn part_left(
-    alloc: Global,
-    g: &Graph,
-    rest: &[bool],
-    ear: &[u32],
-    u: u32,
-) -> Result<Part, NoMemory>
+fn part_left(alloc: Global, g: &Graph, rest: &[bool], ear: &[u32], u: u32) -> Result<Part, NoMemory>
     requires nodes { All (λ v. v < g.now.nodes) ear.now }
     requires marks { length rest.now ≡ g.now.nodes }
     requires left { mark_of rest.now u ≡ true }

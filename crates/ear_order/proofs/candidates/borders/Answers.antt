@@ -1,7 +1,6 @@
-use Rattle.std.proofs.Common.{◌≡◌, ◌∙◌, sym, arith}
-use Rattle.std.proofs.lemmas.Bool.{not-true}
+use Rattle.std.proofs.Common.{◌∙◌}
 use Rattle.tomo_base.specs.Search.{mark_of}
-use Rattle.ear_order.proofs.Spots.{borders_is, inside_is}
+use Rattle.ear_order.proofs.Spots.{borders_is}
 use Rattle.ear_order.proofs.candidates.borders.Goals as goal
 
 pub returns-then-not-marks-v : goal.returns-then-not-marks-v

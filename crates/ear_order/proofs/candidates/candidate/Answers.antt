@@ -1,4 +1,4 @@
-use Rattle.std.proofs.Common.{◌≡◌, ◌<◌, ◌-◌, ℕ, Bool, List, Vec, All, true, false, length, set, sym, subst, ap, ◌∙◌}
+use Rattle.std.proofs.Common.{◌≡◌, ◌<◌, ◌-◌, ℕ, Vec, All, true, false, length, set, sym, subst, ap, ◌∙◌}
 use Rattle.std.specs.Global.{Global}
 use Rattle.std.specs.List.{AllWithin}
 use Rattle.std.proofs.lemmas.Result.{IfOk-weaker}
@@ -9,7 +9,6 @@ use Rattle.ear_order.specs.Turns.{between}
 use Rattle.ear_order.proofs.Lists.{between_off}
 use Rattle.ear_order.proofs.Remaining.{part_off_u, part_off_old, part_below, part_crosses, part_touched}
 use Rattle.ear_order.proofs.candidates.candidate.Goals as goal
-
 
 pub first_near-requires-clause-nodes : goal.first_near-requires-clause-nodes
 first_near-requires-clause-nodes c = subst (All (λ v. v < c.args.g.now.nodes)) (sym c.deref-2.ensures.value)

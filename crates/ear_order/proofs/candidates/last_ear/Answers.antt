@@ -1,4 +1,4 @@
-use Rattle.std.proofs.Common.{◌≡◌, ◌++◌, [], ◌∷◌, ap, ◌∙◌, arith}
+use Rattle.std.proofs.Common.{arith}
 use Rattle.ear_order.proofs.Remaining.{near_last, over_last, is_last, not_u}
 use Rattle.ear_order.proofs.candidates.last_ear.Goals as goal
 

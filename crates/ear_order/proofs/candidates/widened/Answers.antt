@@ -1,4 +1,3 @@
-use Rattle.std.proofs.Common.{◌≡◌, ℕ, sym}
 use Rattle.ear_order.proofs.Spots.{zone_from}
 use Rattle.ear_order.proofs.candidates.widened.Goals as goal
 

@@ -1,4 +1,4 @@
-use Rattle.std.proofs.Common.{◌≡◌, ◌<◌, length, slice_index_or, cond, refl, ap, ◌∙◌, arith, length-set, take_all}
+use Rattle.std.proofs.Common.{◌<◌, length, slice_index_or, cond, refl, ap, ◌∙◌, arith, length-set, take_all}
 use Rattle.tomo_base.specs.Search.{mark_of}
 use Rattle.tomo_base.specs.Sets.{has}
 use Rattle.ear_order.proofs.Marking.{mark_more}

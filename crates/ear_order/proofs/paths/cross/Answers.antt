@@ -1,4 +1,4 @@
-use Rattle.std.proofs.Common.{◌≡◌, ◌<◌, ◌-◌, ℕ, true, length, sym, subst, ap, ◌∙◌, arith}
+use Rattle.std.proofs.Common.{◌≡◌, ◌<◌, true, length, sym, subst}
 use Rattle.tomo_base.specs.Network.{linked}
 use Rattle.tomo_base.specs.Search.{mark_of, entry_at}
 use Rattle.ear_order.proofs.Reaching.{must_cross}

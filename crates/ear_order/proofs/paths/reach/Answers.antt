@@ -1,6 +1,5 @@
-use Rattle.std.proofs.Common.{◌≡◌, ◌<◌, true, ℕ, All, sym, subst}
+use Rattle.std.proofs.Common.{◌≡◌, ◌<◌, true, All, sym, subst}
 use Rattle.std.proofs.lemmas.Result.{IfOk-weaker}
-use Rattle.tomo_base.specs.declared.search.Swept.{Swept}
 use Rattle.tomo_base.specs.Search.{mark_of, IsSweep}
 use Rattle.tomo_base.proofs.Links.{linked_below}
 use Rattle.tomo_base.proofs.Ascending.{All-from_has}

@@ -1,4 +1,4 @@
-use Rattle.std.proofs.Common.{length, refl, arith}
+use Rattle.std.proofs.Common.{length, refl}
 use Rattle.tomo_base.specs.declared.graph.Hop.{Hop}
 use Rattle.tomo_base.proofs.Searching.{hops_below}
 use Rattle.ear_order.proofs.Reaching.{seeding_none, seeding_past, seeding_more, seeding_done}

@@ -1,6 +1,5 @@
-use Rattle.std.proofs.Common.{◌≡◌, ◌++◌, [], ◌∷◌, ◌-◌, ◌<◌, ℕ, suc, true, length, sym, subst, ap, ◌∙◌, arith}
-use Rattle.std.proofs.lemmas.List.{get_or_read, get_or_default, length_push}
-use Rattle.tomo_base.specs.Network.{linked}
+use Rattle.std.proofs.Common.{◌≡◌, ◌++◌, [], ◌∷◌, ◌<◌, suc, true, length, sym, subst, ap, ◌∙◌, arith}
+use Rattle.std.proofs.lemmas.List.{get_or_read, get_or_default}
 use Rattle.tomo_base.specs.Sets.{has}
 use Rattle.tomo_base.specs.Search.{entry_at}
 use Rattle.tomo_base.proofs.Ascending.{has-at}

@@ -1,8 +1,8 @@
-use Rattle.std.proofs.Common.{◌≡◌, ◌-◌, ◌<◌, ◌&&◌, ℕ, Bool, not, false, true, All, length, sym, subst, ap, ◌∙◌, arith}
+use Rattle.std.proofs.Common.{◌≡◌, ◌-◌, ◌<◌, ◌&&◌, not, false, All, sym, subst, ap, ◌∙◌, arith}
 use Rattle.tomo_base.specs.Sets.{has, count}
 use Rattle.tomo_base.specs.Search.{mark_of}
 use Rattle.tomo_base.proofs.Counts.{count-le}
-use Rattle.ear_order.specs.Turns.{between, IsPart, IsTurn, IsBetter}
+use Rattle.ear_order.specs.Turns.{IsPart}
 use Rattle.ear_order.proofs.Marking.{marked_below}
 use Rattle.ear_order.proofs.Spots.{ear_all}
 use Rattle.ear_order.proofs.Bettering.{order_below}
@@ -30,29 +30,29 @@ returns-in_default-clause-goes_on c =
 pub better-requires-clause-turn : goal.better-requires-clause-turn
 better-requires-clause-turn c =
     let t =
-        turn_from c.args.g.now c.nodes-nodes.ensures.graph c.args.old.now c.args.rest.now c.args.u c.requires.left c.requires.rest c.loop-part.ear.items c.loop-part.invariant.0 c.loop-part.invariant.1
-        c.loop-part.part.order.items (mark_of c.loop-part.part.inside.items) c.loop-part.invariant.2 (mark_of c.in_ok-others.others.items) c.in_ok-others.ensures.beyond
-        c.in-Some.x c.in_ok-further.further.order.items (mark_of c.in_ok-further.further.inside.items)
-        (subst (λ xs. IsPart c.args.g.now (mark_of xs) c.in-Some.x c.in_ok-further.further.order.items (mark_of c.in_ok-further.further.inside.items)) c.deref-in-loop-part-2.ensures.value c.in_ok-further.ensures.part) in
+    turn_from c.args.g.now c.nodes-nodes.ensures.graph c.args.old.now c.args.rest.now c.args.u c.requires.left c.requires.rest c.loop-part.ear.items c.loop-part.invariant.0 c.loop-part.invariant.1
+    c.loop-part.part.order.items (mark_of c.loop-part.part.inside.items) c.loop-part.invariant.2 (mark_of c.in_ok-others.others.items) c.in_ok-others.ensures.beyond
+    c.in-Some.x c.in_ok-further.further.order.items (mark_of c.in_ok-further.further.inside.items)
+    (subst (λ xs. IsPart c.args.g.now (mark_of xs) c.in-Some.x c.in_ok-further.further.order.items (mark_of c.in_ok-further.further.inside.items)) c.deref-in-loop-part-2.ensures.value c.in_ok-further.ensures.part) in
     (mark_of c.args.rest.now, mark_of c.loop-part.part.inside.items, c.args.u, t)
 
 pub part_left-requires-in-loop-part-clause-nodes : goal.part_left-requires-in-loop-part-clause-nodes
 part_left-requires-in-loop-part-clause-nodes c =
     let t =
-        turn_from c.args.g.now c.nodes-nodes.ensures.graph c.args.old.now c.args.rest.now c.args.u c.requires.left c.requires.rest c.loop-part.ear.items c.loop-part.invariant.0 c.loop-part.invariant.1
-        c.loop-part.part.order.items (mark_of c.loop-part.part.inside.items) c.loop-part.invariant.2 (mark_of c.in_ok-others.others.items) c.in_ok-others.ensures.beyond
-        c.in-Some.x c.in_ok-further.further.order.items (mark_of c.in_ok-further.further.inside.items)
-        (subst (λ xs. IsPart c.args.g.now (mark_of xs) c.in-Some.x c.in_ok-further.further.order.items (mark_of c.in_ok-further.further.inside.items)) c.deref-in-loop-part-2.ensures.value c.in_ok-further.ensures.part) in
+    turn_from c.args.g.now c.nodes-nodes.ensures.graph c.args.old.now c.args.rest.now c.args.u c.requires.left c.requires.rest c.loop-part.ear.items c.loop-part.invariant.0 c.loop-part.invariant.1
+    c.loop-part.part.order.items (mark_of c.loop-part.part.inside.items) c.loop-part.invariant.2 (mark_of c.in_ok-others.others.items) c.in_ok-others.ensures.beyond
+    c.in-Some.x c.in_ok-further.further.order.items (mark_of c.in_ok-further.further.inside.items)
+    (subst (λ xs. IsPart c.args.g.now (mark_of xs) c.in-Some.x c.in_ok-further.further.order.items (mark_of c.in_ok-further.further.inside.items)) c.deref-in-loop-part-2.ensures.value c.in_ok-further.ensures.part) in
     let b = c.in_ok-ear.ensures (mark_of c.args.rest.now) (mark_of c.loop-part.part.inside.items) c.args.u t in
     subst (All (λ v. v < c.args.g.now.nodes)) (sym c.deref-in-loop-part-3.ensures.value) (ear_all c.args.g.now c.nodes-nodes.ensures.graph (mark_of c.args.old.now) c.in_ok-ear.ear.items b.is_ear)
 
 pub part_left-requires-in-loop-part-clause-off : goal.part_left-requires-in-loop-part-clause-off
 part_left-requires-in-loop-part-clause-off c =
     let t =
-        turn_from c.args.g.now c.nodes-nodes.ensures.graph c.args.old.now c.args.rest.now c.args.u c.requires.left c.requires.rest c.loop-part.ear.items c.loop-part.invariant.0 c.loop-part.invariant.1
-        c.loop-part.part.order.items (mark_of c.loop-part.part.inside.items) c.loop-part.invariant.2 (mark_of c.in_ok-others.others.items) c.in_ok-others.ensures.beyond
-        c.in-Some.x c.in_ok-further.further.order.items (mark_of c.in_ok-further.further.inside.items)
-        (subst (λ xs. IsPart c.args.g.now (mark_of xs) c.in-Some.x c.in_ok-further.further.order.items (mark_of c.in_ok-further.further.inside.items)) c.deref-in-loop-part-2.ensures.value c.in_ok-further.ensures.part) in
+    turn_from c.args.g.now c.nodes-nodes.ensures.graph c.args.old.now c.args.rest.now c.args.u c.requires.left c.requires.rest c.loop-part.ear.items c.loop-part.invariant.0 c.loop-part.invariant.1
+    c.loop-part.part.order.items (mark_of c.loop-part.part.inside.items) c.loop-part.invariant.2 (mark_of c.in_ok-others.others.items) c.in_ok-others.ensures.beyond
+    c.in-Some.x c.in_ok-further.further.order.items (mark_of c.in_ok-further.further.inside.items)
+    (subst (λ xs. IsPart c.args.g.now (mark_of xs) c.in-Some.x c.in_ok-further.further.order.items (mark_of c.in_ok-further.further.inside.items)) c.deref-in-loop-part-2.ensures.value c.in_ok-further.ensures.part) in
     let b = c.in_ok-ear.ensures (mark_of c.args.rest.now) (mark_of c.loop-part.part.inside.items) c.args.u t in
     ap (λ xs. has xs c.args.u) c.deref-in-loop-part-3.ensures.value
     ∙ u_off c.args.g.now c.nodes-nodes.ensures.graph c.args.old.now c.args.rest.now c.args.u c.requires.left c.requires.rest c.in_ok-ear.ear.items b.is_ear (b.keeps c.args.u c.loop-part.invariant.2.holds)
@@ -63,10 +63,10 @@ loop-part-smaller c =
     let C = mark_of c.loop-part.part.inside.items in
     let C' = mark_of c.in_ok-part-2.part.inside.items in
     let t =
-        turn_from c.args.g.now c.nodes-nodes.ensures.graph c.args.old.now c.args.rest.now c.args.u c.requires.left c.requires.rest c.loop-part.ear.items c.loop-part.invariant.0 c.loop-part.invariant.1
-        c.loop-part.part.order.items (mark_of c.loop-part.part.inside.items) c.loop-part.invariant.2 (mark_of c.in_ok-others.others.items) c.in_ok-others.ensures.beyond
-        c.in-Some.x c.in_ok-further.further.order.items (mark_of c.in_ok-further.further.inside.items)
-        (subst (λ xs. IsPart c.args.g.now (mark_of xs) c.in-Some.x c.in_ok-further.further.order.items (mark_of c.in_ok-further.further.inside.items)) c.deref-in-loop-part-2.ensures.value c.in_ok-further.ensures.part) in
+    turn_from c.args.g.now c.nodes-nodes.ensures.graph c.args.old.now c.args.rest.now c.args.u c.requires.left c.requires.rest c.loop-part.ear.items c.loop-part.invariant.0 c.loop-part.invariant.1
+    c.loop-part.part.order.items (mark_of c.loop-part.part.inside.items) c.loop-part.invariant.2 (mark_of c.in_ok-others.others.items) c.in_ok-others.ensures.beyond
+    c.in-Some.x c.in_ok-further.further.order.items (mark_of c.in_ok-further.further.inside.items)
+    (subst (λ xs. IsPart c.args.g.now (mark_of xs) c.in-Some.x c.in_ok-further.further.order.items (mark_of c.in_ok-further.further.inside.items)) c.deref-in-loop-part-2.ensures.value c.in_ok-further.ensures.part) in
     let b = c.in_ok-ear.ensures (mark_of c.args.rest.now) C c.args.u t in
     let p : IsPart g (λ v. mark_of c.args.rest.now v && not (has c.in_ok-ear.ear.items v)) c.args.u c.in_ok-part-2.part.order.items C' =
     subst (λ xs. IsPart g (λ v. mark_of c.args.rest.now v && not (has xs v)) c.args.u c.in_ok-part-2.part.order.items C') c.deref-in-loop-part-3.ensures.value c.in_ok-part-2.ensures.part in
@@ -80,12 +80,11 @@ pub loop-part-preserved : goal.loop-part-preserved
 loop-part-preserved c =
     let g = c.args.g.now in
     let t =
-        turn_from c.args.g.now c.nodes-nodes.ensures.graph c.args.old.now c.args.rest.now c.args.u c.requires.left c.requires.rest c.loop-part.ear.items c.loop-part.invariant.0 c.loop-part.invariant.1
-        c.loop-part.part.order.items (mark_of c.loop-part.part.inside.items) c.loop-part.invariant.2 (mark_of c.in_ok-others.others.items) c.in_ok-others.ensures.beyond
-        c.in-Some.x c.in_ok-further.further.order.items (mark_of c.in_ok-further.further.inside.items)
-        (subst (λ xs. IsPart c.args.g.now (mark_of xs) c.in-Some.x c.in_ok-further.further.order.items (mark_of c.in_ok-further.further.inside.items)) c.deref-in-loop-part-2.ensures.value c.in_ok-further.ensures.part) in
-    let b = c.in_ok-ear.ensures (mark_of c.args.rest.now) (mark_of c.loop-part.part.inside.items) c.args.u t in
-    (
+    turn_from c.args.g.now c.nodes-nodes.ensures.graph c.args.old.now c.args.rest.now c.args.u c.requires.left c.requires.rest c.loop-part.ear.items c.loop-part.invariant.0 c.loop-part.invariant.1
+    c.loop-part.part.order.items (mark_of c.loop-part.part.inside.items) c.loop-part.invariant.2 (mark_of c.in_ok-others.others.items) c.in_ok-others.ensures.beyond
+    c.in-Some.x c.in_ok-further.further.order.items (mark_of c.in_ok-further.further.inside.items)
+    (subst (λ xs. IsPart c.args.g.now (mark_of xs) c.in-Some.x c.in_ok-further.further.order.items (mark_of c.in_ok-further.further.inside.items)) c.deref-in-loop-part-2.ensures.value c.in_ok-further.ensures.part) in
+    let b = c.in_ok-ear.ensures (mark_of c.args.rest.now) (mark_of c.loop-part.part.inside.items) c.args.u t in (
       b.is_ear,
       b.keeps c.args.u c.loop-part.invariant.2.holds,
       subst (λ xs. IsPart g (λ v. mark_of c.args.rest.now v && not (has xs v)) c.args.u c.in_ok-part-2.part.order.items (mark_of c.in_ok-part-2.part.inside.items)) c.deref-in-loop-part-3.ensures.value c.in_ok-part-2.ensures.part,

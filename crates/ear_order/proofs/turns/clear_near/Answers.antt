@@ -1,4 +1,4 @@
-use Rattle.std.proofs.Common.{◌≡◌, ◌<◌, length, refl, ◌∙◌, arith, length-set}
+use Rattle.std.proofs.Common.{refl, ◌∙◌, arith, length-set}
 use Rattle.tomo_base.specs.declared.graph.Hop.{Hop}
 use Rattle.tomo_base.specs.Search.{mark_of}
 use Rattle.tomo_base.proofs.Searching.{hops_below}
@@ -15,8 +15,7 @@ index_mut-requires-in-loop-hop c =
 
 pub loop-hop-preserved : goal.loop-hop-preserved
 loop-hop-preserved c =
-    let e : Hop = record { node = 0; link = 0 } in
-    (
+    let e : Hop = record { node = 0; link = 0 } in (
       length-set c.loop-hop.marks.items _ _ ∙ c.loop-hop.invariant.0,
       clearing_more (mark_of c.args.marks.now.items) c.loop-hop.marks.items c.args.v _ c.hops-hop-items.result.now c.loop-hop.hop-index e c.loop-hop-test.true refl
           (omega (arith, hops_below c.args.g.now c.args.v c.hops-hop-items.result.now c.args.g.now.nodes c.nodes-nodes.ensures.graph c.hops-hop-items.ensures refl c.loop-hop.hop-index e c.loop-hop-test.true, c.loop-hop.invariant.0))

@@ -1,4 +1,4 @@
-use Rattle.std.proofs.Common.{◌≡◌, ℕ, false, subst, arith}
+use Rattle.std.proofs.Common.{◌≡◌, false, subst, arith}
 use Rattle.tomo_base.specs.Search.{mark_of}
 use Rattle.tomo_base.proofs.Ascending.{place_in}
 use Rattle.ear_order.proofs.turns.last_marked.Goals as goal

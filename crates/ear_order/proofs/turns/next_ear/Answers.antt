@@ -1,8 +1,7 @@
-use Rattle.std.proofs.Common.{◌≡◌, ◌≢◌, ◌-◌, ◌<◌, ◌≤◌, ℕ, Bool, true, Vec, All, length, inl, inr, sym, subst, ap, ◌∙◌, arith}
+use Rattle.std.proofs.Common.{◌≡◌, ◌-◌, ◌<◌, ◌≤◌, ℕ, Vec, All, length, inl, sym, subst, ap, ◌∙◌, arith}
 use Rattle.std.specs.Global.{Global}
 use Rattle.std.proofs.lemmas.List.{get_or_read}
 use Rattle.std.proofs.lemmas.Result.{IfOk-weaker}
-use Rattle.tomo_base.specs.Sets.{has}
 use Rattle.tomo_base.specs.Search.{mark_of, entry_at}
 use Rattle.tomo_base.proofs.Ascending.{place_in}
 use Rattle.ear_order.specs.Ears.{GoesOn}

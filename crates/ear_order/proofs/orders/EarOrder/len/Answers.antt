@@ -1,4 +1,4 @@
-use Rattle.std.proofs.Common.{◌≡◌, arith}
+use Rattle.std.proofs.Common.{arith}
 use Rattle.std.proofs.lemmas.List.{length-map}
 use Rattle.ear_order.proofs.Ordering.{order_short}
 use Rattle.ear_order.proofs.orders.EarOrder.len.Goals as goal

@@ -1,10 +1,8 @@
-use Rattle.std.proofs.Common.{◌≡◌, ◌<◌, ◌-◌, ◌++◌, [], ◌∷◌, ℕ, List, Vec, All, map, false, true, length, refl, sym, subst, ap, ap₂, ◌∙◌, arith}
-use Rattle.std.specs.Global.{Global}
+use Rattle.std.proofs.Common.{◌≡◌, ◌<◌, ◌++◌, [], ◌∷◌, ℕ, List, All, map, false, length, sym, subst, ap, ◌∙◌, arith}
 use Rattle.std.proofs.lemmas.Bool.{both_ways}
 use Rattle.tomo_base.specs.Network.{Network}
 use Rattle.tomo_base.specs.Search.{mark_of}
-use Rattle.ear_order.specs.Ears.{Ears, IsOrder, IsWhole, in_ears}
-use Rattle.ear_order.specs.Turns.{IsLeft, ContinuesWith}
+use Rattle.ear_order.specs.Ears.{Ears, in_ears}
 use Rattle.ear_order.proofs.InEars.{map_push}
 use Rattle.ear_order.proofs.Ordering.{order_nodes, left_in, push_in}
 use Rattle.ear_order.proofs.orders.EarOrder.next.Goals as goal
@@ -48,8 +46,7 @@ returns-clause-more c = λ more.
 pub returns-clause-whole : goal.returns-clause-whole
 returns-clause-whole c =
     let unmarked = c.in-Some._unmarked in
-    let same = ap (λ (z : Ears). z.graph) c.self.view_is ∙ c.requires in
-    (
+    let same = ap (λ (z : Ears). z.graph) c.self.view_is ∙ c.requires in (
       λ more. cc,
       λ whole. absurd (both_ways (in_ears c.args.self.now.list unmarked)
           (ap (λ (z : Ears). in_ears z.list unmarked) (sym c.self.view_is) ∙ (sym (c.in_ok-old.ensures.marks unmarked ∙ ap (λ es. in_ears (map (λ e. e.items) es) unmarked) c.deref.ensures.value)

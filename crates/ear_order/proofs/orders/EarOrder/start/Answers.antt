@@ -1,11 +1,11 @@
-use Rattle.std.proofs.Common.{◌≡◌, ◌<◌, ◌-◌, ◌++◌, [], ◌∷◌, ℕ, List, Vec, map, false, true, length, set, replicate, length-set, ap, ap₂, ◌∙◌, arith}
+use Rattle.std.proofs.Common.{◌≡◌, ◌-◌, ◌++◌, [], ◌∷◌, ℕ, List, Vec, map, false, true, length, set, replicate, length-set, ap, ap₂, ◌∙◌, arith}
 use Rattle.std.specs.Global.{Global}
 use Rattle.std.proofs.lemmas.List.{length-replicate}
 use Rattle.tomo_base.specs.declared.graph.Link.{Link}
 use Rattle.tomo_base.specs.Network.{Network}
 use Rattle.tomo_base.specs.Search.{mark_of}
 use Rattle.tomo_base.proofs.Links.{linked_below}
-use Rattle.ear_order.specs.Ears.{Ears, ends_of}
+use Rattle.ear_order.specs.Ears.{Ears}
 use Rattle.ear_order.proofs.Lists.{different_at}
 use Rattle.ear_order.proofs.Starting.{marks_two, left_first, order_first}
 use Rattle.ear_order.proofs.orders.EarOrder.start.Goals as goal

@@ -1,6 +1,6 @@
 -- Cut vertices by the sides that they leave of all nodes.
-use Rattle.std.proofs.Common.{◌≡◌, ◌≢◌, ℕ, ◌+◌, ◌<◌, ◌≤◌, ◌⊎◌, ◌↔◌, Bool, true, false, ◌||◌, ◌==◌, List, [], ◌∷◌, length, IsTrue, refl, sym, ap, ◌∙◌, inl, inr, arith, subst}
-use Rattle.std.proofs.lemmas.Bool.{cases_eq, cases_lt, cases_Bool, both_ways, or_cases, or_left, or_right, eqb-true, eq-eqb, true≢false, false_from_ne_true}
+use Rattle.std.proofs.Common.{◌≡◌, ℕ, ◌+◌, ◌<◌, ◌↔◌, ◌||◌, ◌==◌, List, length, IsTrue, refl, sym, ap, ◌∙◌, inl, inr, arith, subst}
+use Rattle.std.proofs.lemmas.Bool.{cases_eq, cases_lt, both_ways, or_cases, or_left, or_right, eqb-true, eq-eqb}
 use Rattle.tomo_base.specs.Network.{Network, linked, IsGraph}
 use Rattle.tomo_base.specs.Sets.{has, members, without}
 use Rattle.tomo_base.specs.Walks.{IsConnectedIn, everything}
@@ -9,11 +9,11 @@ use Rattle.tomo_base.specs.SetLists.{IsSetBelow}
 use Rattle.tomo_base.proofs.Counts.{length-members}
 use Rattle.tomo_base.proofs.Members.{has-members, members_below}
 use Rattle.tomo_base.proofs.Links.{linked_below}
-use Rattle.tomo_base.proofs.Ascending.{All-has, All-from_has, members_ascend}
+use Rattle.tomo_base.proofs.Ascending.{All-from_has, members_ascend}
 use Rattle.tomo_base.proofs.Parting.{without-from, without-parts}
 use Rattle.tomo_base.proofs.Walks.{connected_inside, stays_in}
 use Rattle.blocks.specs.Sides.{AreSides}
-use Rattle.blocks.proofs.Working.{count-all}
+use Rattle.tomo_base.proofs.Counts.{count-everything}
 
 module _ (g : Network) (all : List ℕ) (graph : IsGraph g) (is : all ≡ members g.nodes everything) where
   -- every node is one of all
@@ -33,7 +33,7 @@ module _ (g : Network) (all : List ℕ) (graph : IsGraph g) (is : all ≡ member
 
   -- they are n
   pub all_length : length all ≡ g.nodes
-  all_length = ap length is ∙ (length-members g.nodes everything ∙ count-all g.nodes)
+  all_length = ap length is ∙ (length-members g.nodes everything ∙ count-everything g.nodes)
 
   -- where a node cuts them, it is a cut vertex
   pub cut_of_sides : (v : ℕ) (near far : List ℕ) → AreSides g all v near far → IsCutVertex g v

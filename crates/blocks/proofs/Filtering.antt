@@ -1,8 +1,8 @@
 -- Lists of nodes that are kept by a test, marks on nodes, and ascending lists of nodes.
-use Rattle.std.proofs.Common.{◌≡◌, ◌≢◌, ℕ, zero, suc, ◌+◌, ◌<◌, ◌≤◌, ◌⊎◌, Bool, true, false, not, ◌&&◌, ◌||◌, ◌==◌, cond, List, [], ◌∷◌, ◌++◌, length, get_or, set, take, All, IsTrue, refl, sym, ap, ◌∙◌, inl, inr, arith, subst, get_or-set_same, get_or-set_other, replicate}
+use Rattle.std.proofs.Common.{◌≡◌, ◌≢◌, ℕ, ◌+◌, ◌<◌, Bool, true, false, not, ◌&&◌, ◌||◌, ◌==◌, List, [], ◌∷◌, ◌++◌, length, get_or, set, take, refl, sym, ap, ◌∙◌, inl, inr, arith, get_or-set_same, get_or-set_other, replicate}
 use Rattle.std.specs.List.{filter}
 use Rattle.std.specs.List.Sorted.{IsStrictlyIncreasing}
-use Rattle.std.proofs.lemmas.Bool.{cases_eq, cases_lt, cases_Bool, or_cases, or_left, or_right, and_parts, and_from, both_ways, eqb-true, eq-eqb, ne_eqb, true≢false, false_from_ne_true, and_right}
+use Rattle.std.proofs.lemmas.Bool.{cases_eq, cases_lt, cases_Bool, or_cases, or_left, or_right, and_parts, eqb-true, eq-eqb, ne_eqb, true≢false, and_right}
 use Rattle.std.proofs.lemmas.List.{take_more, append-nil, length-replicate, get_or-replicate, get_or_past}
 use Rattle.std.proofs.lemmas.List.Elements.{filter-append}
 use Rattle.std.proofs.lemmas.List.Kept.{IsStrictlyIncreasing-filter}
@@ -10,7 +10,7 @@ use Rattle.tomo_base.specs.Sets.{has, without}
 use Rattle.tomo_base.specs.Search.{mark_of}
 use Rattle.tomo_base.specs.SetLists.{IsSetBelow}
 use Rattle.tomo_base.proofs.Members.{has-append}
-use Rattle.tomo_base.proofs.Ascending.{All-has, All-from_has, has-at}
+use Rattle.tomo_base.proofs.Ascending.{All-has, All-from_has}
 
 -- one number more that passes the test
 pub filter_more : (p : ℕ → Bool) (xs kept : List ℕ) (i d x : ℕ) → i < length xs → x ≡ get_or xs i d → p x ≡ true → kept ≡ filter p (take i xs) → kept ++ x ∷ [] ≡ filter p (take (i + 1) xs)

@@ -1,5 +1,5 @@
 -- Nodes of a list that were tried one after the other.
-use Rattle.std.proofs.Common.{◌≡◌, ℕ, ◌+◌, ◌<◌, List, length, get_or, take, IsTrue, [], ◌∷◌, sym, ◌∙◌, inl, inr, arith, true, ◌||◌, ◌==◌, subst}
+use Rattle.std.proofs.Common.{ℕ, ◌+◌, ◌<◌, List, length, get_or, take, IsTrue, [], ◌∷◌, sym, ◌∙◌, inl, inr, ◌==◌, subst}
 use Rattle.std.proofs.lemmas.Bool.{or_cases, true≢false, eqb-true}
 use Rattle.std.proofs.lemmas.List.{take_more}
 use Rattle.tomo_base.specs.Sets.{has}

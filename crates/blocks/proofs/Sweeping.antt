@@ -1,8 +1,8 @@
 -- What one search without a node of a set tells: the node cuts the set into two sides, or the rest is connected.
-use Rattle.std.proofs.Common.{◌≡◌, ◌≢◌, ℕ, ◌+◌, ◌<◌, ◌≤◌, ◌⊎◌, Bool, true, false, not, ◌&&◌, ◌||◌, ◌==◌, nat_lt, List, [], ◌∷◌, length, get_or, take, IsTrue, All, refl, sym, ap, ◌∙◌, inl, inr, arith, subst, lt-ltb, le-ltb}
+use Rattle.std.proofs.Common.{◌≡◌, ◌≢◌, ℕ, ◌<◌, ◌≤◌, ◌⊎◌, Bool, true, false, not, ◌||◌, ◌==◌, nat_lt, List, [], ◌∷◌, length, get_or, take, IsTrue, refl, sym, ap, ◌∙◌, inl, inr, arith, subst, lt-ltb, le-ltb}
 use Rattle.std.specs.List.{filter}
 use Rattle.std.specs.List.Sorted.{IsStrictlyIncreasing}
-use Rattle.std.proofs.lemmas.Bool.{cases_eq, cases_lt, cases_Bool, or_cases, or_left, or_right, and_parts, and_from, both_ways, eqb-true, eq-eqb, ne_eqb, true≢false, false_from_ne_true, not-true, ltb-true}
+use Rattle.std.proofs.lemmas.Bool.{cases_eq, cases_lt, cases_Bool, or_cases, or_left, or_right, and_parts, and_from, both_ways, eqb-true, eq-eqb, ne_eqb, false_from_ne_true, not-true, ltb-true}
 use Rattle.std.proofs.lemmas.List.{take_all}
 use Rattle.tomo_base.specs.Network.{Network, linked, IsGraph}
 use Rattle.tomo_base.specs.Sets.{has, without}

@@ -1,20 +1,20 @@
 -- The loop that cuts sets until no node cuts any: what it keeps, and that it ends with exactly the blocks.
-use Rattle.std.proofs.Common.{◌≡◌, ◌≢◌, ℕ, zero, suc, ◌+◌, ◌*◌, ◌-◌, ◌≤◌, ◌<◌, ◌⊎◌, Bool, true, false, not, ◌&&◌, ◌||◌, ◌==◌, nat_lt, List, [], ◌∷◌, ◌++◌, length, map, reverse, get_or, Option, All, Contains, IsTrue, Vec, refl, sym, ap, ◌∙◌, inl, inr, arith, subst}
+use Rattle.std.proofs.Common.{◌≡◌, ◌≢◌, ℕ, zero, suc, ◌+◌, ◌*◌, ◌-◌, ◌≤◌, ◌<◌, Bool, true, false, ◌&&◌, ◌==◌, List, [], ◌∷◌, ◌++◌, length, map, reverse, get_or, All, Contains, IsTrue, Vec, refl, sym, ap, ◌∙◌, inl, inr, arith, subst}
 use Rattle.std.specs.Global.{Global}
 use Rattle.std.specs.declared.option.Option.TheVariants.{Some as Present}
 use Rattle.std.specs.List.Sorted.{IsStrictlyIncreasing}
-use Rattle.std.proofs.lemmas.Bool.{cases_eq, cases_lt, cases_Bool, or_cases, or_left, or_right, and_parts, and_from, both_ways, eqb-true, eq-eqb, true≢false, false_from_ne_true}
-use Rattle.std.proofs.lemmas.List.{reverse-append, length_push, length-map, get_or-map}
+use Rattle.std.proofs.lemmas.Bool.{cases_eq, cases_lt, or_cases, or_left, or_right, and_parts, and_from, both_ways, eqb-true, eq-eqb, false_from_ne_true}
+use Rattle.std.proofs.lemmas.List.{reverse-append, length_push}
 use Rattle.std.proofs.lemmas.List.Elements.{All-push, All-pop, All-map, All-contains, All-contains_itself, Contains-append_left, Contains-append_right, Contains-append_cases}
 use Rattle.tomo_base.specs.Network.{Network, linked, IsGraph}
-use Rattle.tomo_base.specs.Sets.{has, size, count, members, without, minus, Within, IsInside}
-use Rattle.tomo_base.specs.Walks.{IsConnectedIn, IsConnected, everything}
+use Rattle.tomo_base.specs.Sets.{has, count, members, without, Within}
+use Rattle.tomo_base.specs.Walks.{IsConnected, everything}
 use Rattle.tomo_base.specs.Blocks.{IsNonseparable, IsBlock}
 use Rattle.tomo_base.specs.SetLists.{IsSetBelow, AreSetsWith}
-use Rattle.tomo_base.proofs.Counts.{count-same, count-mono, count-le}
+use Rattle.tomo_base.proofs.Counts.{count-same, count-le, count-everything}
 use Rattle.tomo_base.proofs.Members.{has-members, members_below, count-has}
 use Rattle.tomo_base.proofs.Ascending.{All-has, All-from_has, same_list, members_ascend}
-use Rattle.tomo_base.specs.Parting.{with_one, IsClosedIn, IsJoinedIn, IsJoinedWithoutOne}
+use Rattle.tomo_base.specs.Parting.{with_one, IsJoinedIn, IsJoinedWithoutOne}
 use Rattle.tomo_base.proofs.Parting.{without-from, without-parts, minus-in, minus-out, joined-same, joined-each}
 use Rattle.tomo_base.proofs.Reaching.{is_node, nodes_in, is_node-from, is_node_below, connected-joined, joined-connected}
 use Rattle.tomo_base.proofs.Walks.{connected_inside}
@@ -23,8 +23,8 @@ use Rattle.blocks.specs.declared.block_list.Part.{Part}
 use Rattle.blocks.specs.Lists.{lists_of}
 use Rattle.blocks.specs.Sides.{AreSides, HasNoCut}
 use Rattle.blocks.proofs.SameSets.{contains_map}
-use Rattle.blocks.proofs.SetLists.{Each, Some, Pairs, each-map, some-map}
-use Rattle.blocks.proofs.Cutting.{BlockLike, Block, Cut, Rough, Ready, Cutting, MeetOne, meet-one, meet-sym, OneOwner, owner-ext, rest, weight, cutting-start, cutting-ready, cutting-cut, cutting-end, cut-count, cut-two, cut-other}
+use Rattle.blocks.proofs.SetLists.{Each, Some, each-map}
+use Rattle.blocks.proofs.Cutting.{BlockLike, Block, Cut, Rough, Cutting, MeetOne, meet-one, meet-sym, owner-ext, rest, weight, cutting-start, cutting-ready, cutting-cut, cutting-end, cut-count}
 
 -- ---- sets that no node cuts, by walks and by closed sets
 
@@ -186,12 +186,6 @@ cutting-swap g V A B todo out c = record {
 
 -- ---- the loop
 
--- all numbers below n are n
-pub count-all : (n : ℕ) → count n everything ≡ n
-unfolding count
-count-all zero = refl
-count-all (suc k) = omega (arith, count-all k)
-
 -- at first all nodes are to be cut
 pub working_start : (g : Network) (p : Part) → IsGraph g → IsConnected g → 2 ≤ g.nodes → p.nodes.items ≡ members g.nodes everything → Working g (p ∷ []) []
 working_start g p graph connected two all =
@@ -204,7 +198,7 @@ working_start g p graph connected two all =
       | inl l ↦ l
       | inr ge ↦ absurd (both_ways (has p.nodes.items v) (ap (λ xs. has xs v) all ∙ members_below n everything v ge) h)
     ] in
-    let size_is : count n V ≡ n = count-same n V everything (λ v l. is_node-from g v l) ∙ count-all n in
+    let size_is : count n V ≡ n = count-same n V everything (λ v l. is_node-from g v l) ∙ count-everything n in
     let firm : IsJoinedIn g V = connected-joined g V node (connected_inside g everything V graph (λ v l h. is_node-from g v l) (λ v l h. refl) connected) in
     let start = cutting-same g V V (has p.nodes.items) [] [] (λ v m. has_all v (node v m)) (λ v h. is_node-from g v (below v h)) (cutting-start g n V (omega (arith, size_is, two)) firm) in
     record {

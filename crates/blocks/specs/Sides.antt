@@ -1,7 +1,7 @@
 -- A set of nodes that one of its nodes cuts into two sides.
-use Rattle.std.specs.Prelude.{ℕ, ◌≡◌, ◌≢◌, ◌⊎◌, true, false, List, IsTrue}
+use Rattle.std.specs.Prelude.{ℕ, ◌≡◌, ◌≢◌, ◌⊎◌, false, List, IsTrue}
 use Rattle.tomo_base.specs.Network.{Network, linked}
-use Rattle.tomo_base.specs.Sets.{has, without, Within}
+use Rattle.tomo_base.specs.Sets.{has, without}
 use Rattle.tomo_base.specs.SetLists.{IsSetBelow}
 use Rattle.tomo_base.specs.Walks.{IsConnectedIn}
 

@@ -45,7 +45,15 @@ fn has_blocks(
 #[test]
 fn two_triangles_joined_by_a_link(rt: HostRuntime) -> Result<(), Fail> {
     let ends = [(0, 1), (0, 2), (1, 2), (2, 3), (3, 4), (3, 5), (4, 5)];
-    assert!(rt; has_blocks(rt.alloc(), 6, &ends, &[2, 3], &[&[0, 1, 2], &[2, 3], &[3, 4, 5]])?);
+    assert!(rt;
+        has_blocks(
+            rt.alloc(),
+            6,
+            &ends,
+            &[2, 3],
+            &[&[0, 1, 2], &[2, 3], &[3, 4, 5]]
+        )?
+    );
     Ok(())
 }
 

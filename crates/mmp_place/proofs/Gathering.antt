@@ -4,14 +4,13 @@ use Rattle.std.proofs.lemmas.Bool.{cases_Bool, cases_lt, and_parts, or_cases}
 use Rattle.std.proofs.lemmas.List.{take_more}
 use Rattle.std.proofs.lemmas.List.Elements.{All-nil, All-cons, All-head, All-tail, All-append, All-weaker, Contains-append_left, Contains-append_right, Contains-push_cases}
 use Rattle.tomo_base.specs.Network.{Network, IsGraph}
-use Rattle.tomo_base.specs.Sets.{has, members, count, without, Within, IsInside}
-use Rattle.tomo_base.specs.Blocks.{IsBlock, ArePartedBy, IsThreeBlockOf, IsThreeBlock}
+use Rattle.tomo_base.specs.Sets.{has, members, count, Within}
+use Rattle.tomo_base.specs.Blocks.{IsBlock, IsThreeBlockOf, IsThreeBlock}
 use Rattle.tomo_base.specs.SetLists.{IsSetBelow, AreSetsWith}
 use Rattle.tomo_base.proofs.Counts.{count-mono, length-members}
 use Rattle.tomo_base.proofs.Members.{count-has, has-members}
 use Rattle.tomo_base.proofs.Ascending.{All-has}
-use Rattle.tomo_base.proofs.Parting.{without_two-from, without_two-in, without_two-ne, minus-out}
-use Rattle.tomo_base.proofs.Walks.{Reaches-inside}
+use Rattle.tomo_base.proofs.Parting.{minus-out}
 use Rattle.tomo_base.proofs.Reaching.{is_node, is_node-from}
 use Rattle.mmp_place.specs.Rule.{every_node, narrow, counting, idle, wanting, filled, filled_each, placed_by, IsLargeBlock, IsPlacedByRule}
 use Rattle.mmp_place.specs.Steps.{FillsThreeBlocks, large}

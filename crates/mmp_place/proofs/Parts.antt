@@ -1,8 +1,8 @@
 -- Blocks and three-blocks by closed sets in place of walks; what the tests say of numbers that are no nodes does not matter.
-use Rattle.std.proofs.Common.{Result, Ok, Err, IfOk, ◌≡◌, ℕ, ◌<◌, ◌≤◌, Bool, List, IsTrue, sym, ◌∙◌, subst, inl, inr}
+use Rattle.std.proofs.Common.{Result, Ok, Err, IfOk, ◌≡◌, ℕ, ◌<◌, Bool, List, IsTrue, sym, ◌∙◌, subst, inl, inr}
 use Rattle.std.proofs.lemmas.Bool.{cases_Bool, cases_lt, both_ways, and_parts, and_from, false_from_ne_true}
 use Rattle.tomo_base.specs.Network.{Network, IsGraph}
-use Rattle.tomo_base.specs.Sets.{has, members, size, without, Within, IsInside}
+use Rattle.tomo_base.specs.Sets.{has, members, without, Within, IsInside}
 use Rattle.tomo_base.specs.Blocks.{IsBlock, ArePartedBy, IsThreeBlockOf, IsThreeBlock}
 use Rattle.tomo_base.specs.SetLists.{AreSetsWith, AreAllSets}
 use Rattle.tomo_base.proofs.Parting.{without_two-in, without_two-from, without_two-ne}

@@ -6,6 +6,7 @@ use Rattle.tomo_base.specs.declared.graph.Link.{Link}
 use Rattle.tomo_base.specs.Network.{Network, joins, any_joins, linked}
 use Rattle.tomo_base.specs.Sets.{has, count, without, Within}
 use Rattle.tomo_base.specs.SetLists.{IsSetBelow}
+use Rattle.tomo_base.proofs.Entering.{joins_its_ends}
 use Rattle.tomo_base.proofs.Links.{linked_comm, joins_gives}
 use Rattle.tomo_base.proofs.Members.{count-has}
 use Rattle.tomo_base.proofs.Ascending.{All-has}
@@ -39,11 +40,6 @@ outer n whole one other pair is part shared =
       ]),
     )
 
--- a link joins its ends
-self : (l : Link) → joins l l.a l.b ≡ true
-unfolding joins
-self l = grind (arith, nat_tests)
-
 -- a part, by closed sets
 pub half_of : (n : ℕ) (whole part : Piece) (pair : Link) → IsPiece n whole → IsPiece n part → IsPart whole pair part
     → (out : ℕ) → IsTrue (has whole.nodes out) → has part.nodes out ≡ false
@@ -66,7 +62,7 @@ half_of n whole part pair is is' at out out_in out_off =
         sub = at.inside;
         at_a = at.first;
         at_b = at.second;
-        pair = at.links a b ∙ or_right (any_joins whole.links a b && (P a && P b)) (joins pair a b) (self pair);
+        pair = at.links a b ∙ or_right (any_joins whole.links a b && (P a && P b)) (joins pair a b) (joins_its_ends pair);
         keep = λ u v pu pv l. at.links u v ∙ or_left (any_joins whole.links u v && (P u && P v)) (joins pair u v) (and_from (any_joins whole.links u v) (P u && P v) l (and_from (P u) (P v) pu pv));
         gate = gate;
       };

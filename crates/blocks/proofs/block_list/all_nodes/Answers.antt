@@ -1,4 +1,4 @@
-use Rattle.std.proofs.Common.{◌≡◌, ℕ, suc, ◌+◌, ◌∙◌, ◌++◌, [], ◌∷◌, refl, sym, ap, arith, List}
+use Rattle.std.proofs.Common.{◌≡◌, ℕ, suc, ◌+◌, ◌∙◌, ◌++◌, [], ◌∷◌, refl, sym, ap, arith}
 use Rattle.tomo_base.specs.Sets.{members}
 use Rattle.tomo_base.specs.Walks.{everything}
 use Rattle.blocks.proofs.block_list.all_nodes.Goals as goal

@@ -1,7 +1,7 @@
-use Rattle.std.proofs.Common.{◌≡◌, ◌≤◌, ◌<◌, ◌∙◌, ◌++◌, [], ◌∷◌, ap, sym, arith, subst, length}
+use Rattle.std.proofs.Common.{◌<◌, ◌∙◌, ap, arith}
 use Rattle.tomo_base.specs.Sets.{members}
 use Rattle.tomo_base.specs.Walks.{everything}
-use Rattle.blocks.proofs.Working.{Working, weight_of, working_start, working_found, working_cut, working_end, working_two}
+use Rattle.blocks.proofs.Working.{weight_of, working_start, working_found, working_cut, working_end, working_two}
 use Rattle.blocks.proofs.block_list.cut_up.Goals as goal
 
 pub loop-part-init : goal.loop-part-init

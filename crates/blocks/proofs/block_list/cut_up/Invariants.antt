@@ -1,4 +1,3 @@
-use Rattle.std.proofs.Common.{ℕ}
 use Rattle.blocks.proofs.Working.{Working, weight_of}
 use Rattle.blocks.proofs.block_list.cut_up.Given as goal
 

@@ -1,7 +1,5 @@
-use Rattle.std.proofs.Common.{◌∙◌, ap, sym, arith, false, true, ◌≡◌, ◌<◌}
+use Rattle.std.proofs.Common.{arith}
 use Rattle.std.proofs.lemmas.Bool.{both_ways}
-use Rattle.tomo_base.specs.Sets.{has, members}
-use Rattle.tomo_base.specs.Walks.{everything}
 use Rattle.blocks.proofs.Looking.{none_in}
 use Rattle.blocks.proofs.CutVertices.{cuts_more, cuts_past}
 use Rattle.blocks.proofs.block_list.cut_vertices.Goals as goal

@@ -1,4 +1,4 @@
-use Rattle.std.proofs.Common.{refl, arith, ◌≡◌, true, false, sym}
+use Rattle.std.proofs.Common.{refl, arith, sym}
 use Rattle.std.proofs.lemmas.Bool.{true≢false}
 use Rattle.blocks.proofs.CutVertices.{all_has, all_set, all_length, cut_of_sides, no_cut_vertex}
 use Rattle.blocks.proofs.block_list.is_cut.Goals as goal

@@ -1,4 +1,4 @@
-use Rattle.std.proofs.Common.{◌≡◌, ℕ, ◌<◌, ◌≤◌, ◌+◌, ◌∙◌, ◌++◌, [], ◌∷◌, List, Vec, length, map, take, get_or, Contains, ap, ap₂, sym, arith, subst, refl}
+use Rattle.std.proofs.Common.{◌≡◌, ℕ, ◌≤◌, ◌+◌, ◌∙◌, ◌++◌, [], ◌∷◌, Vec, length, take, get_or, Contains, ap, ap₂, sym, arith, subst}
 use Rattle.std.specs.Global.{Global}
 use Rattle.std.proofs.lemmas.List.{take_all, take_more, length-map, get_or-map, length-take-le}
 use Rattle.std.proofs.lemmas.List.Elements.{All-contains}

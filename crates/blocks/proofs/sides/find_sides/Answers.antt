@@ -1,4 +1,4 @@
-use Rattle.std.proofs.Common.{ℕ, ◌<◌, arith, inl, inr}
+use Rattle.std.proofs.Common.{◌<◌, arith, inl, inr}
 use Rattle.std.proofs.lemmas.Bool.{cases_lt}
 use Rattle.tomo_base.proofs.Ascending.{All-has}
 use Rattle.blocks.proofs.sides.find_sides.Goals as goal

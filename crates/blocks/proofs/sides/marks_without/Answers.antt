@@ -1,6 +1,5 @@
-use Rattle.std.proofs.Common.{◌≡◌, ℕ, ◌<◌, ◌∙◌, length, false, replicate, refl, sym, ap, arith, inl, inr, length-set}
-use Rattle.std.proofs.lemmas.Bool.{cases_lt}
-use Rattle.std.proofs.lemmas.List.{length-replicate, get_or-replicate, get_or_past, take_all}
+use Rattle.std.proofs.Common.{◌∙◌, length, false, refl, ap, arith, length-set}
+use Rattle.std.proofs.lemmas.List.{length-replicate, take_all}
 use Rattle.tomo_base.specs.Search.{mark_of}
 use Rattle.tomo_base.specs.Sets.{has}
 use Rattle.blocks.proofs.Filtering.{marks_more, marks_but, no_marks}

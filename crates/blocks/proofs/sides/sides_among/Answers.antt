@@ -1,4 +1,4 @@
-use Rattle.std.proofs.Common.{ℕ, ◌≤◌, ◌<◌, arith, take, IsTrue, subst, sym}
+use Rattle.std.proofs.Common.{◌≤◌, ◌<◌, arith, IsTrue, subst, sym}
 use Rattle.std.proofs.lemmas.List.{take_all}
 use Rattle.tomo_base.specs.Sets.{has, without}
 use Rattle.tomo_base.specs.Walks.{IsConnectedIn}

@@ -1,4 +1,4 @@
-use Rattle.std.proofs.Common.{◌≡◌, ◌≢◌, ℕ, zero, suc, ◌<◌, ◌≤◌, ◌∙◌, length, true, sym, ap, arith, inl, inr, refl, IsTrue, subst, get_or, [], ◌∷◌}
+use Rattle.std.proofs.Common.{◌≡◌, ℕ, zero, suc, ◌<◌, ◌∙◌, length, true, sym, ap, arith, inl, inr, refl, IsTrue, get_or, [], ◌∷◌}
 use Rattle.std.proofs.lemmas.List.{get_or_default}
 use Rattle.tomo_base.specs.Search.{mark_of, entry_at}
 use Rattle.tomo_base.specs.Sets.{has, without}

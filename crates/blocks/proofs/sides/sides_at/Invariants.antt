@@ -1,4 +1,4 @@
-use Rattle.std.proofs.Common.{◌≡◌, ℕ, take}
+use Rattle.std.proofs.Common.{◌≡◌, take}
 use Rattle.std.specs.List.{filter}
 use Rattle.blocks.proofs.Sweeping.{is_near, is_far}
 use Rattle.blocks.proofs.sides.sides_at.Given as goal

@@ -1,4 +1,4 @@
-use Rattle.std.proofs.Common.{◌≡◌, ◌<◌, ◌+◌, ◌^◌, ◌∙◌, ◌++◌, length, arith, ap, sym}
+use Rattle.std.proofs.Common.{◌≡◌, ◌∙◌, ◌++◌, length, ap}
 use Rattle.simple_path.proofs.Regions.{length-paths, nodes_all, region_more, paths_more}
 use Rattle.simple_path.proofs.path_pool.PathPool.add.Goals as goal
 

@@ -1,4 +1,4 @@
-use Rattle.std.proofs.Common.{◌≡◌, ◌<◌, ◌≤◌, ◌∙◌, take, length, arith, sym}
+use Rattle.std.proofs.Common.{◌≡◌, ◌≤◌, ◌∙◌, take, length, arith}
 use Rattle.simple_path.specs.Region.{end_from}
 use Rattle.simple_path.proofs.Regions.{length-paths, region_less, paths_less, end_none, end_last}
 use Rattle.simple_path.proofs.path_pool.PathPool.cut_back.Goals as goal

@@ -13,7 +13,7 @@ use Rattle.tomo_base.proofs.Links.{linked_below}
 use Rattle.tomo_base.proofs.Rows.{any_joins-push, AreLinks-push}
 use Rattle.tomo_base.proofs.Searching.{connected_from}
 use Rattle.tomo_base.proofs.Walks.{Reaches-step}
-use Rattle.topology.proofs.Graphs.{AreLinks-more}
+use Rattle.tomo_base.proofs.Graphs.{AreLinks-more}
 use Rattle.drill.specs.Draws.{next, step, draw, state}
 use Rattle.drill.specs.Generated.{pair, IsPair, pairs, pair_count, is_free, first_free, next_link, links_of, generated}
 use Rattle.drill.proofs.PairLists.{pairs_are, length-pairs}

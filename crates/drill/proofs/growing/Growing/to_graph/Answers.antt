@@ -1,5 +1,5 @@
 use Rattle.std.proofs.Common.{◌∙◌}
-use Rattle.topology.proofs.Graphs.{no_fault, graph_is}
+use Rattle.tomo_base.proofs.Graphs.{no_fault, graph_is}
 use Rattle.drill.proofs.growing.Growing.to_graph.Goals as goal
 
 pub unreachable-requires : goal.unreachable-requires

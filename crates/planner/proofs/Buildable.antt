@@ -1,115 +1,90 @@
 -- What is measured can be made a plan: however paths are turned and their coefficients added up, each recipe stays short.
-use Rattle.std.proofs.Common.{◌≡◌, ◌≢◌, ℕ, ◌<◌, ◌≤◌, Bool, true, IsTrue, List, [], ◌∷◌, length, map, get_or, All, ℤ, pos, refl, sym, ap, ◌∙◌, subst, inl, inr, arith}
-use Rattle.std.proofs.lemmas.List.{length-map, get_or-map}
+use Rattle.std.proofs.Common.{◌≡◌, ◌≢◌, ℕ, suc, ◌+◌, ◌<◌, ◌≤◌, ◌==◌, Bool, true, List, [], ◌∷◌, length, get_or, All, ℤ, pos, negsuc, ◌+ℤ◌, if◌then◌else◌, refl, ap, inl, inr, arith}
+use Rattle.std.proofs.lemmas.Bool.{cases_Bool, cases_eq, eq-eqb}
+use Rattle.std.proofs.lemmas.Int.{ints}
+use Rattle.std.proofs.lemmas.Option.{slice_get-get_or}
+use Rattle.tomo_base.specs.declared.graph.Link.{Link}
 use Rattle.tomo_base.specs.Network.{Network}
-use Rattle.tomo_base.specs.Sets.{has}
-use Rattle.tomo_base.proofs.Ascending.{has-at}
+use Rattle.tomo_base.specs.Sets.{one_if}
+use Rattle.tomo_base.specs.Recipes.{gain_of, loss_of, weighted, IsRecipe}
 use Rattle.simple_path.specs.declared.recipe.Term.{Term}
-use Rattle.simple_path.specs.Terms.{path_terms}
-use Rattle.cross_links.specs.CrossRecipe.{IsCrossCoefficient, Differ, IsCrossRecipe}
+use Rattle.simple_path.specs.Terms.{weighted_by, path_terms}
 use Rattle.plan_form.specs.Parts.{IsCoefficient}
-use Rattle.plan_form.specs.Building.{turned, renumbered, IsRewritten}
+use Rattle.plan_form.specs.Building.{renumbered, IsRewritten}
 use Rattle.plan_form.specs.Buildable.{IsShort, IsBuildable}
-use Rattle.plan_form.proofs.Turning.{turned_keeps, has_back}
-use Rattle.planner.specs.Measures.{AreMeasures}
-use Rattle.planner.proofs.Merged.{numbers_of, Different, merged_given, merged_few, merged_kept}
-use Rattle.planner.proofs.Measuring.{length-path_terms}
+use Rattle.plan_form.proofs.Built.{renumbered_weight, renumbered_within, good_recipe}
+use Rattle.plan_form.proofs.Tied.{sum_alone}
+use Rattle.stpc_paths.specs.Measures.{IsTreeRecipe, AreTreeMeasures}
+use Rattle.planner.proofs.Merged.{merged_sum, merged_few}
 
--- a turned path has the same nodes
-has_turned : (p : List ℕ) (v : ℕ) → has (turned p) v ≡ has p v
-has_turned p v = turned_keeps (λ q. has q v) (λ q. has_back q v) p
+-- as many terms with other path numbers
+length-renumbered : (f : ℕ → ℕ) (ts : List Term) → length (renumbered f ts) ≡ length ts
+length-renumbered f [] = refl
+length-renumbered f (t ∷ ts) = ap suc (length-renumbered f ts)
 
--- a term with another path number
-abbrev pub moved : (ℕ → ℕ) → Term → Term
-moved f t = record { coef = t.coef; path = f t.path }
+-- one path weighs no more than all
+few_alone : (w : ℤ → ℕ) (k : ℕ) (ts : List Term) → weighted_by w (λ j. one_if (j == k)) ts ≤ weighted_by w (λ j. 1) ts
+unfolding weighted_by
+few_alone w k [] = omega arith
+few_alone w k (t ∷ ts) = elim (cases_Bool (t.path == k)) [ inl e ↦ rw e (omega (arith, few_alone w k ts)) | inr e ↦ rw e (omega (arith, few_alone w k ts)) ]
 
--- terms with other path numbers, one by one
-renumbered_each : (f : ℕ → ℕ) (ts : List Term) → renumbered f ts ≡ map (moved f) ts
-renumbered_each f [] = refl
-renumbered_each f (t ∷ ts) = ap (λ rest. moved f t ∷ rest) (renumbered_each f ts)
+-- what gains and losses of at most four leave is a coefficient, or 0
+coefficient : (z : ℤ) (a b : ℕ) → z +ℤ pos b ≡ pos a → a ≤ 4 → b ≤ 4 → z ≢ pos 0 → IsCoefficient z
+coefficient (pos n) a b e up down some = (
+  elim (cases_eq n 0) [ inl none ↦ absurd (some (ap pos none)) | inr ne ↦ omega (arith, ne) ],
+  omega (arith, ints, e, up),
+)
+coefficient (negsuc n) a b e up down some = omega (arith, ints, e, down)
 
--- terms with their paths, one by one
-pub path_terms_each : (pool : List (List ℕ)) (ts : List Term) → path_terms pool ts ≡ map (λ t. (t.coef, get_or pool t.path [])) ts
-path_terms_each pool [] = refl
-path_terms_each pool (t ∷ ts) = ap (λ rest. (t.coef, get_or pool t.path []) ∷ rest) (path_terms_each pool ts)
+-- a recipe has a term, since its link is counted twice
+recipe_some : (links : List Link) (i : ℕ) (paths : List (List ℕ)) (terms : List Term) → i < length links → IsRecipe links i (path_terms paths terms) → 0 < length terms
+unfolding weighted
+recipe_some links i paths (t ∷ terms) lt recipe = omega arith
+recipe_some links i paths [] lt recipe =
+    let d : Link = record { a = 0; b = 0 } in
+    let none : 0 ≡ 0 + (if i == i then 2 else 0) = recipe i (get_or links i d) (slice_get-get_or links i d lt) in
+    two (i == i) (eq-eqb i i refl) none
+  where
+    two : (c : Bool) → c ≡ true → 0 ≡ 0 + (if c then 2 else 0) → 0 < 0
+    two c e h = omega (arith, rw e at h)
 
--- 2, 1 and -1 are coefficients of a plan, and none is 0
-cross_coefficient : (c : ℤ) → IsCrossCoefficient c → IsCoefficient c × (c ≢ pos 0)
-cross_coefficient c (inl two) = rw two ((omega arith, omega arith), λ e. cc e)
-cross_coefficient c (inr (inl one)) = rw one ((omega arith, omega arith), λ e. cc e)
-cross_coefficient c (inr (inr minus)) = rw minus (omega arith, λ e. cc e)
-
-module _ (g : Network) (m : ℕ → Bool) (i : ℕ) (pool paths : List (List ℕ)) (ts new : List Term) (cross : IsCrossRecipe g m i (path_terms pool ts)) (rewritten : IsRewritten pool paths ts new) where
+module _ (g : Network) (i : ℕ) (pool paths : List (List ℕ)) (ts new : List Term) (tree : IsTreeRecipe g pool i ts) (rewritten : IsRewritten pool paths ts new) where
   abbrev old : List Term
   old = renumbered rewritten.number ts
 
-  no_term : Term
-  no_term = record { coef = pos 0; path = 0 }
+  -- the merged terms are at most seven
+  pub stays_few : length new ≤ 7
+  stays_few = omega (
+    arith,
+    merged_few (length paths) old new rewritten.merged (renumbered_within rewritten.number (length paths) ts (λ k d l. (rewritten.names k d l).0)),
+    length-renumbered rewritten.number ts,
+    tree.few,
+  )
 
-  -- there are as many terms with new numbers
-  size : length old ≡ length ts
-  size = ap (λ xs. length xs) (renumbered_each rewritten.number ts) ∙ length-map ts (moved rewritten.number)
+  -- some term is left, since the link is counted twice
+  stays_some : i < length g.links → 0 < length new
+  stays_some lt = recipe_some g.links i paths new lt (good_recipe g i pool paths ts new rewritten tree.recipe).recipe
 
-  -- each has the new number of its path
-  old_at : (k : ℕ) (d : Term) → k < length ts → get_or old k d ≡ moved rewritten.number (get_or ts k d)
-  old_at k d l = ap (λ xs. get_or xs k d) (renumbered_each rewritten.number ts) ∙ get_or-map (moved rewritten.number) ts k d d l
+  -- with small coefficients
+  stays_small : All (λ t. IsCoefficient t.coef) new
+  stays_small k d l =
+      let p = (get_or new k d).path in
+      let same = merged_sum old new k d rewritten.merged l in
+      let weight = sum_alone old p in
+      let up = renumbered_weight gain_of (λ j. 1) (λ j. 1) rewritten.number ts (λ j e h. refl) in
+      let down = renumbered_weight loss_of (λ j. 1) (λ j. 1) rewritten.number ts (λ j e h. refl) in
+      coefficient (get_or new k d).coef (weighted_by gain_of (λ j. one_if (j == p)) old) (weighted_by loss_of (λ j. one_if (j == p)) old) (rw same at weight)
+      (omega (arith, few_alone gain_of p old, up, tree.few_gains)) (omega (arith, few_alone loss_of p old, down, tree.few_losses)) (rewritten.merged.some k d l)
 
-  -- the path of a term
-  path_at : (k : ℕ) (d : Term) (e : ℤ × List ℕ) → k < length ts → get_or (path_terms pool ts) k e ≡ ((get_or ts k d).coef, get_or pool (get_or ts k d).path [])
-  path_at k d e l = ap (λ xs. get_or xs k e) (path_terms_each pool ts) ∙ get_or-map (λ (t : Term). (t.coef, get_or pool t.path [])) ts k d e l
-
-  -- no two terms have one number, since their paths differ in a node, however they are turned
-  different : Different old
-  different a b d lt l same =
-      let in_b : b < length ts = omega (arith, l, size) in
-      let in_a : a < length ts = omega (arith, lt, in_b) in
-      let p = get_or pool (get_or ts a d).path [] in
-      let q = get_or pool (get_or ts b d).path [] in
-      let e : ℤ × List ℕ = (pos 0, []) in
-      let apart : Differ ((get_or ts a d).coef, p) ((get_or ts b d).coef, q) =
-      subst (λ x. Differ x ((get_or ts b d).coef, q)) (path_at a d e in_a) (subst (λ y. Differ (get_or (path_terms pool ts) a e) y) (path_at b d e in_b) (cross.different a b e lt (omega (arith, in_b, length-path_terms pool ts)))) in
-      let one : rewritten.number (get_or ts a d).path ≡ rewritten.number (get_or ts b d).path = sym (ap (λ (t : Term). t.path) (old_at a d in_a)) ∙ (same ∙ ap (λ (t : Term). t.path) (old_at b d in_b)) in
-      let turns : turned p ≡ turned q = sym (rewritten.names a d in_a).1 ∙ (ap (λ k. get_or paths k []) one ∙ (rewritten.names b d in_b).1) in
-      apart.1 (sym (has_turned p apart.0) ∙ (ap (λ r. has r apart.0) turns ∙ has_turned q apart.0))
-
-  -- each coefficient is one of a cross recipe
-  coefficient : (k : ℕ) (d : Term) → k < length ts → IsCrossCoefficient (get_or old k d).coef
-  coefficient k d l =
-      let e : ℤ × List ℕ = (pos 0, []) in
-      rw (old_at k d l) (subst (λ (x : ℤ × List ℕ). IsCrossCoefficient x.0) (path_at k d e l) (cross.coefficients k e (omega (arith, l, length-path_terms pool ts))))
-
-  -- each names a path
-  below : All (λ t. t.path < length paths) old
-  below k d l = let lt : k < length ts = omega (arith, l, size) in rw (old_at k d lt) (rewritten.names k d lt).0
-
-  -- the path of a term is named by a merged term
-  pub stays_named : (k : ℕ) (d : Term) → k < length ts → IsTrue (has (numbers_of new) (rewritten.number (get_or ts k d).path))
-  stays_named k d l =
-      let left = merged_kept old new k d different rewritten.merged (omega (arith, l, size)) (cross_coefficient _ (coefficient k d l)).1 in
-      let same : (get_or new left.0 d).path ≡ rewritten.number (get_or ts k d).path = left.2 d ∙ ap (λ (t : Term). t.path) (old_at k d l) in
-      let at : get_or (numbers_of new) left.0 0 ≡ (get_or new left.0 d).path = get_or-map (λ (t : Term). t.path) new left.0 d 0 left.1 in
-      subst (λ n. has (numbers_of new) n ≡ true) (at ∙ same) (has-at (numbers_of new) left.0 0 (omega (arith, left.1, length-map new (λ (t : Term). t.path))))
-
-  -- the merged terms are at most four
-  pub stays_few : length new ≤ 4
-  stays_few = omega (arith, merged_few (length paths) old new different rewritten.merged below, cross.few, length-path_terms pool ts, size)
-
-  -- and have small coefficients
-  pub stays_short : IsShort new
-  stays_short =
-      let some : 1 ≤ length ts = omega (arith, cross.some, length-path_terms pool ts) in (
-        (let left = merged_kept old new 0 no_term different rewritten.merged (omega (arith, some, size)) (cross_coefficient _ (coefficient 0 no_term (omega (arith, some)))).1 in omega (arith, left.1)),
-        omega (arith, stays_few),
-        λ k d l.
-            let given = merged_given old new k d different rewritten.merged l in
-            rw (← given.3) (cross_coefficient _ (coefficient given.0 d (omega (arith, given.1, size)))).0,
-      )
+  -- so they are short
+  pub stays_short : i < length g.links → IsShort new
+  stays_short lt = (stays_some lt, omega (arith, stays_few), stays_small)
 
 -- so what is measured of all links can be made a plan
-pub measured_buildable : (g : Network) (m : ℕ → Bool) (pool : List (List ℕ)) (recipes : List (List Term)) → AreMeasures g m (length g.links) pool recipes → IsBuildable g m pool recipes
+pub measured_buildable : (g : Network) (m : ℕ → Bool) (pool : List (List ℕ)) (recipes : List (List Term)) → AreTreeMeasures g m pool recipes → IsBuildable g m pool recipes
 measured_buildable g m pool recipes s = record {
   paths = s.paths;
-  one_each = s.one_each;
-  names = s.names;
-  short = λ paths i new sorted l rewritten. stays_short g m i pool paths (get_or recipes i []) new (s.crosses i l) rewritten;
+  one_each = s.one_recipe;
+  names = λ i l. (s.each i l).names;
+  short = λ paths i new sorted l rewritten. stays_short g i pool paths (get_or recipes i []) new (s.each i l) rewritten (omega (arith, l, s.one_recipe));
 }

@@ -1,5 +1,8 @@
 pub mod Merged
-pub mod Measuring
 pub mod Buildable
 pub mod Named
 pub mod Whole
+pub mod CrossMerged
+pub mod CrossMeasuring
+pub mod CrossBuildable
+pub mod Crossed

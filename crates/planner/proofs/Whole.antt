@@ -1,5 +1,5 @@
 -- What is built of measured links, monitors and pockets is a plan as promised.
-use Rattle.std.proofs.Common.{Ok, Err, Result, IfOk, ◌≡◌, ℕ, ◌*◌, ◌-◌, ◌<◌, ◌≤◌, ◌^◌, Bool, List, [], ◌∷◌, length, map, get_or, All, min, refl, ap, ◌∙◌, arith}
+use Rattle.std.proofs.Common.{Ok, Err, Result, IfOk, ◌≡◌, ℕ, ◌-◌, ◌<◌, ◌≤◌, ◌^◌, Bool, List, [], ◌∷◌, length, map, get_or, All, min, refl, sym, ap, ◌∙◌, arith}
 use Rattle.std.proofs.lemmas.List.{get_or-map, length-map}
 use Rattle.std.proofs.lemmas.List.Elements.{All-head, All-tail, All-map}
 use Rattle.std.specs.List.Sorted.{IsStrictlyIncreasing}
@@ -17,16 +17,20 @@ use Rattle.simple_path.specs.declared.recipe.Term.{Term}
 use Rattle.simple_path.specs.Terms.{path_terms}
 use Rattle.topology.specs.Topology.{Topo, IsTopology}
 use Rattle.pocket_bound.specs.Classes.{sets_of}
+use Rattle.mmp_place.specs.Rule.{IsPlacedByRule}
 use Rattle.plan_form.specs.Parts.{PlanParts, IsWellFormed}
 use Rattle.plan_form.specs.PlanRows.{row_count}
 use Rattle.plan_form.specs.Building.{IsBuilt}
 use Rattle.plan_form.specs.Buildable.{as_part}
 use Rattle.plan_form.specs.Good.{AreGoodPaths, IsGoodPocket, AreGoodPockets, AreGoodRecipes, IsGoodRecipe, IsGoodPlan, pocket_sets}
 use Rattle.plan_form.proofs.Recipes.{good_recipes_are}
-use Rattle.planner.specs.Measures.{IsNamed, AreMeasures}
+use Rattle.plan_form.specs.Tied.{AreTied}
+use Rattle.plan_form.proofs.Retied.{built_tied, as_many}
+use Rattle.stpc_paths.specs.Measures.{AreTreeMeasures}
+use Rattle.planner.specs.Measures.{IsNamed}
 use Rattle.planner.specs.Planned.{IsPlanned, IsPlanFor}
 use Rattle.planner.proofs.Buildable.{stays_few}
-use Rattle.planner.proofs.Named.{named_after}
+use Rattle.planner.proofs.Named.{tied_named}
 
 -- the sets of a plan's pockets are those of the given pockets
 sets_same : (pockets : List Pocket) → pocket_sets (map as_part pockets) ≡ sets_of pockets
@@ -75,13 +79,14 @@ pub record IsMade (t : Topo) (m : List ℕ) (pockets : List Pocket) (p : PlanPar
   pub monitors : p.monitors ≡ m
   pub same_pockets : p.pockets ≡ map as_part pockets
   pub paths : AreGoodPaths t.graph (has m) p.paths
-  pub few_paths : length p.paths ≤ 4 * length t.graph.links
+  pub one_path : length p.paths ≡ length t.graph.links
+  pub tied : AreTied t.graph.links p.paths p.recipes
   pub none_idle : (k : ℕ) → k < length p.paths → IsNamed p.recipes k
   pub recipes : AreGoodRecipes t.graph p.paths p.recipes
-  pub few_terms : (i : ℕ) → i < length p.recipes → length (get_or p.recipes i []) ≤ 4
+  pub few_terms : (i : ℕ) → i < length p.recipes → length (get_or p.recipes i []) ≤ 7
 
 -- so is what is built of measured links
-pub built_made : {E : Type 0} (t : Topo) (r : Result PlanParts E) (m : List ℕ) (pockets : List Pocket) (pool : List (List ℕ)) (old : List (List Term)) → AreMeasures t.graph (has m) (length t.graph.links) pool old →
+pub built_made : {E : Type 0} (t : Topo) (r : Result PlanParts E) (m : List ℕ) (pockets : List Pocket) (pool : List (List ℕ)) (old : List (List Term)) → AreTreeMeasures t.graph (has m) pool old →
     IfOk r IsWellFormed → IfOk r (λ p. p.names ≡ t.names) → IfOk r (λ p. p.links ≡ t.graph.links) → IfOk r (λ p. p.monitors ≡ m) → IfOk r (λ p. p.pockets ≡ map as_part pockets) →
     IfOk r (λ p. IsBuilt pool old p.paths p.recipes) → IfOk r (λ p. length p.paths ≤ length pool) → IfOk r (λ p. AreGoodPaths t.graph (has m) p.paths) →
     IfOk r (λ p. (i : ℕ) → i < length old → IsRecipe t.graph.links i (path_terms pool (get_or old i [])) → IsGoodRecipe t.graph p.paths i (get_or p.recipes i [])) → IfOk r (IsMade t m pockets)
@@ -93,15 +98,16 @@ built_made t (Ok p) m pockets pool old measured formed names links monitors part
   monitors = monitors;
   same_pockets = parts;
   paths = paths;
-  few_paths = omega (arith, few, measured.few);
-  none_idle = named_after t.graph (has m) (length t.graph.links) pool p.paths old p.recipes measured built;
+  one_path = omega (arith, few, as_many t.graph.links pool old p.paths p.recipes (λ i l. (measured.each i l).names) built measured.tied, measured.one_path);
+  tied = built_tied t.graph.links pool old p.paths p.recipes (λ i l. (measured.each i l).names) built measured.tied;
+  none_idle = tied_named t.graph.links p.paths p.recipes (built_tied t.graph.links pool old p.paths p.recipes (λ i l. (measured.each i l).names) built measured.tied);
   recipes = record {
-    one_each = built.one_each ∙ measured.one_each;
-    each = λ i l. let lt : i < length old = omega (arith, l, built.one_each) in kept i lt (measured.crosses i lt).recipe;
+    one_each = built.one_each ∙ measured.one_recipe;
+    each = λ i l. let lt : i < length old = omega (arith, l, built.one_each) in kept i lt (measured.each i lt).recipe;
   };
   few_terms = λ i l.
       let lt : i < length old = omega (arith, l, built.one_each) in
-      stays_few t.graph (has m) i pool p.paths (get_or old i []) (get_or p.recipes i []) (measured.crosses i lt) (built.recipes i lt);
+      stays_few t.graph i pool p.paths (get_or old i []) (get_or p.recipes i []) (measured.each i lt) (built.recipes i lt);
 }
 
 -- with good pockets it is a good plan
@@ -120,10 +126,10 @@ made_few : (t : Topo) (m : List ℕ) (pockets : List Pocket) (p : PlanParts) →
 made_few t m pockets p topo made below up few =
     let monitors : length p.monitors ≡ length m = ap (λ xs. length xs) made.monitors in
     let held : length p.pockets ≡ length pockets = ap (λ xs. length xs) made.same_pockets ∙ length-map pockets as_part in
-    omega (arith, ap (λ xs. length xs) made.names, ap (λ xs. length xs) made.links, topo.one_each, topo.few_nodes, topo.few_links, count-has t.graph.nodes m up below, count-le t.graph.nodes (has m), monitors, held, few, made.few_paths, made.recipes.one_each)
+    omega (arith, ap (λ xs. length xs) made.names, ap (λ xs. length xs) made.links, topo.one_each, topo.few_nodes, topo.few_links, count-has t.graph.nodes m up below, count-le t.graph.nodes (has m), monitors, held, few, made.one_path, made.recipes.one_each)
 
 -- with the lowest set and its home pockets it is what is promised of a plan
-module _ (t : Topo) (m : List ℕ) (pockets : List Pocket) (topo : IsTopology t) (below : All (λ v. v < t.graph.nodes) m) (up : IsStrictlyIncreasing m) (lowest : IsLowest t.graph (has m))
+module _ (t : Topo) (m : List ℕ) (pockets : List Pocket) (topo : IsTopology t) (below : All (λ v. v < t.graph.nodes) m) (up : IsStrictlyIncreasing m) (lowest : IsLowest t.graph (has m)) (by_rule : IsPlacedByRule t.graph (has m))
     (homes : AreHomePockets t.graph (has m) nothing (sets_of pockets)) (shows : Shows t.graph (sets_of pockets) (length m)) (needs : All (λ k. k.need ≡ need_of t.graph (has k.nodes)) pockets) where
   planned : (p : PlanParts) → IsMade t m pockets p → IsPlanned t.names t.graph p
   planned p made =
@@ -132,10 +138,13 @@ module _ (t : Topo) (m : List ℕ) (pockets : List Pocket) (topo : IsTopology t)
         formed = made.formed;
         good = made_good t m pockets p made below up (good_pockets t.graph (has m) (length m) pockets homes shows needs);
         lowest = rw made.monitors lowest;
+        by_rule = rw made.monitors by_rule;
         homes = rw (made.monitors, sets) homes;
-        few_paths = omega (arith, made.few_paths, ap (λ xs. length xs) made.links);
+        one_path = made.one_path ∙ sym (ap (λ xs. length xs) made.links);
+        few_paths = omega (arith, made.one_path, ap (λ xs. length xs) made.links);
         none_idle = made.none_idle;
         few_terms = made.few_terms;
+        tied = rw made.links made.tied;
         identified = recipes_identify t.graph p.paths (good_recipes_are t.graph p.paths p.recipes made.recipes);
         shown = rw (made.monitors, sets) shows;
         least = λ s other. rw made.monitors (pockets_bound t.graph s (sets_of pockets) (length m) topo.graph topo.connected (omega (arith, topo.some_nodes)) shows other);
@@ -161,9 +170,11 @@ all_planned_for t m (Ok p) topo below up made = (
     good = made_good t m [] p made below up (record { each = λ i d l. absurd (omega (arith, l)); disjoint = λ i j d lt l. absurd (omega (arith, l)) });
     monitors = made.monitors;
     no_pockets = made.same_pockets;
-    few_paths = omega (arith, made.few_paths, ap (λ xs. length xs) made.links);
+    one_path = made.one_path ∙ sym (ap (λ xs. length xs) made.links);
+    few_paths = omega (arith, made.one_path, ap (λ xs. length xs) made.links);
     none_idle = made.none_idle;
     few_terms = made.few_terms;
+    tied = rw made.links made.tied;
     identified = recipes_identify t.graph p.paths (good_recipes_are t.graph p.paths p.recipes made.recipes);
   },
   made_few t m [] p topo made below up (omega arith),

@@ -1,9 +1,11 @@
 //! Whole plans: monitors, pockets, paths and recipes for a topology.
 #![tactic(auto)]
 
+mod crossing;
 mod measures;
 mod plans;
 #[cfg(test)]
 mod tests;
 
+pub use crossing::cross_plan_for;
 pub use plans::{make_plan, plan_for};

@@ -1,13 +1,14 @@
 // Paths and recipes for the links of a topology, with given monitors.
-ghost use Rattle.std.specs.Prelude.{◌<◌, length, All, IfOk};
+ghost use Rattle.std.specs.Prelude.{◌<◌, All, IfOk};
 ghost use Rattle.tomo_base.specs.Sets.{has};
 ghost use Rattle.tomo_base.specs.Identify.{Identifies};
 ghost use Rattle.topology.specs.Topology.{IsTopology};
-ghost use Rattle.planner.specs.Measures.{AreMeasures};
+ghost use Rattle.stpc_paths.specs.Measures.{AreTreeMeasures};
 
-use cross_links::recipe;
+use indep_trees::trees;
 use simple_path::{PathPool, Recipes};
 use std::alloc::Global;
+use stpc_paths::stpc;
 use tomo_base::{NoMemory, NodeSet};
 use topology::Topology;
 
@@ -18,19 +19,18 @@ pub struct Measured {
     pub recipes: Recipes,
 }
 
-/// At most four monitor paths for each link, and its recipe over them.
+/// As many monitor paths as links, and a recipe for each link over them, from independent trees.
 pub fn measure_all(alloc: Global, t: &Topology, m: &NodeSet) -> Result<Measured, NoMemory>
     requires nodes { All (λ v. v < t.now.graph.nodes) m.now }
     requires identifies { Identifies t.now.graph (has m.now) }
     ensures topology { IsTopology t.now }
-    ensures measures { IfOk result (λ s. AreMeasures t.now.graph (has m.now) (length t.now.graph.links) s.pool s.recipes) }
+    ensures measures { IfOk result (λ s. AreTreeMeasures t.now.graph (has m.now) s.pool s.recipes) }
 {
+    // The nodes that a set lends ascend, so they are no more than the graph has.
+    let _ascending = m.as_slice();
     let g = t.graph();
+    let grown = trees(alloc, g, m)?;
     let mut pool = PathPool::new(alloc);
-    let mut recipes = Recipes::new(alloc);
-    for link in 0..g.links().len() as u32 {
-        let terms = recipe(alloc, g, m, link, &mut pool)?;
-        recipes.push(terms).map_err(|_| NoMemory)?;
-    }
+    let recipes = stpc(alloc, g, m, &grown, &mut pool)?;
     Ok(Measured { pool, recipes })
 }

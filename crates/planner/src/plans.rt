@@ -6,25 +6,26 @@ ghost use Rattle.plan_form.specs.PlanRows.{row_count};
 ghost use Rattle.planner.specs.Planned.{IsPlanned, IsPlanFor};
 
 use crate::measures::measure_all;
-use drop_place::place;
+use mmp_place::mmp;
 use plan_form::Plan;
 use pocket_bound::pockets;
 use std::alloc::Global;
 use tomo_base::{NoMemory, NodeSet, Pockets};
 use topology::Topology;
 
-/// The plan of a topology: the lowest set of monitors, its home pockets, and paths and recipes for all links, at most four paths a link.
+/// The plan of a topology: the lowest set of monitors, which the placement rule places, its home pockets, and as many paths as links, with a
+/// recipe for each link.
 pub fn make_plan(alloc: Global, t: &Topology) -> Result<Plan, NoMemory>
     ensures planned { IfOk result (IsPlanned t.now.names t.now.graph) }
     ensures rows { IfOk result (λ p. row_count p < 2 ^ 32) }
 {
-    let monitors = place(alloc, t.graph())?;
+    let monitors = mmp(alloc, t.graph())?;
     let pockets = pockets(alloc, t.graph(), &monitors)?;
     let made = measure_all(alloc, t, &monitors)?;
     Plan::build(alloc, t, &monitors, &pockets, &made.pool, &made.recipes)
 }
 
-/// A plan for given monitors that identify every link: paths and recipes for all links, at most four paths a link, and no pockets.
+/// A plan for given monitors that identify every link: as many paths as links, with a recipe for each link, and no pockets.
 pub fn plan_for(alloc: Global, t: &Topology, m: &NodeSet) -> Result<Plan, NoMemory>
     requires nodes { All (λ v. v < t.now.graph.nodes) m.now }
     requires identifies { Identifies t.now.graph (has m.now) }

@@ -39,6 +39,7 @@ fn two_triangles_joined_by_a_link_are_planned(rt: HostRuntime) -> Result<(), Fai
     let plan = plan_of(alloc, b"a,b\na,c\nb,c\nc,d\nd,e\nd,f\ne,f\n")?;
     assert_eq!(rt; plan.monitors(), [0, 1, 4, 5].as_slice());
     assert_eq!(rt; plan.pocket_count(), 4);
+    assert_eq!(rt; plan.paths().len(), 7);
     assert_eq!(rt; plan.recipes().len(), 7);
     assert_eq!(rt; plan.recipes().at(3).terms().len(), 4);
     Ok(())

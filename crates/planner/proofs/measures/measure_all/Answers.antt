@@ -1,11 +1,14 @@
-use Rattle.std.proofs.Common.{rules, ◌≡◌, ◌++◌, ◌∷◌, []}
-use Rattle.planner.proofs.Measuring.{measuring_more}
+use Rattle.std.proofs.Common.{arith}
+use Rattle.tomo_base.specs.Sets.{has}
+use Rattle.tomo_base.proofs.Counts.{count-le}
+use Rattle.tomo_base.proofs.Members.{count-has}
 use Rattle.planner.proofs.measures.measure_all.Goals as goal
 
-pub recipe-requires-clause-connected : goal.recipe-requires-clause-connected
-recipe-requires-clause-connected c = rw c.graph-g.ensures.graph c.graph-g.ensures.topology.connected
+pub trees-requires-clause-connected : goal.trees-requires-clause-connected
+trees-requires-clause-connected c = rw c.graph-g.ensures.graph c.graph-g.ensures.topology.connected
 
-pub loop-link-preserved : goal.loop-link-preserved
-loop-link-preserved c =
-    let grown : c.push.new.self ≡ c.loop-link.recipes ++ c.in_ok-terms.terms ∷ [] = search rules in
-    rw grown (measuring_more c.args.t.now.graph _ c.loop-link.link c.loop-link.pool c.recipe.new.pool c.loop-link.recipes c.in_ok-terms.terms c.graph-g.ensures.topology.few_nodes c.loop-link.invariant (rw c.graph-g.ensures.graph at c.in_ok-terms.ensures.ok))
+pub trees-requires-clause-few_links : goal.trees-requires-clause-few_links
+trees-requires-clause-few_links c =
+    let n = c.args.t.now.graph.nodes in
+    let topo = c.graph-g.ensures.topology in
+    rw c.graph-g.ensures.graph (omega (arith, topo.few_links, topo.few_nodes, count-has n c.args.m.now c.as_slice-ascending.ensures.ascending c.requires.nodes, count-le n (has c.args.m.now)))

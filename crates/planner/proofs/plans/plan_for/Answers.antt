@@ -9,7 +9,7 @@ pub build-requires-clause-parts : goal.build-requires-clause-parts
 build-requires-clause-parts c = measured_buildable _ _ _ _ c.in_ok-made.ensures.measures
 
 -- what is built is what is promised
-promised : (c : goal.After-drop-made-2) → IfOk c.build.result (IsPlanFor c.args.t.now.names c.args.t.now.graph c.args.m.now) × IfOk c.build.result (λ p. row_count p < 2 ^ 32)
+promised : (c : goal.After-drop-made-3) → IfOk c.build.result (IsPlanFor c.args.t.now.names c.args.t.now.graph c.args.m.now) × IfOk c.build.result (λ p. row_count p < 2 ^ 32)
 promised c =
     let built = rw c.new-pockets.ensures at c.build.ensures in
     all_planned_for c.args.t.now c.args.m.now c.build.result c.in_ok-made.ensures.topology c.requires.nodes c.as_slice-ascending.ensures.ascending

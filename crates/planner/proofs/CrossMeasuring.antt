@@ -1,23 +1,16 @@
 -- One link after the other gets its paths and its recipe, and the recipes before it stay.
-use Rattle.std.proofs.Common.{◌≡◌, ℕ, suc, ◌+◌, ◌-◌, ◌*◌, ◌<◌, ◌≤◌, Bool, true, List, [], ◌∷◌, ◌++◌, length, get_or, All, pos, refl, ap, ap₂, subst, ◌∙◌, inl, inr, arith}
+use Rattle.std.proofs.Common.{◌≡◌, ℕ, suc, ◌+◌, ◌*◌, ◌<◌, ◌≤◌, Bool, List, [], ◌∷◌, ◌++◌, length, get_or, All, refl, ap, ap₂, ◌∙◌, inl, inr, arith}
 use Rattle.std.proofs.lemmas.Bool.{cases_lt}
-use Rattle.std.proofs.lemmas.List.{length-append, length-map, length_push, get_or-map, get_or_append_left, get_or_push}
+use Rattle.std.proofs.lemmas.List.{length-append, length_push, get_or_append_left, get_or_push}
 use Rattle.std.proofs.lemmas.List.Elements.{All-append, All-head, All-tail}
 use Rattle.tomo_base.specs.Network.{Network}
-use Rattle.tomo_base.specs.Sets.{has}
-use Rattle.tomo_base.proofs.Ascending.{has-at}
 use Rattle.tomo_base.specs.Identify.{IsMonitorPath}
 use Rattle.simple_path.specs.declared.recipe.Term.{Term}
 use Rattle.simple_path.specs.Terms.{path_terms}
 use Rattle.simple_path.specs.Pools.{nodes_in}
+use Rattle.simple_path.proofs.Pools.{nodes_in-append}
 use Rattle.cross_links.specs.CrossRecipe.{AddsRecipe}
-use Rattle.planner.specs.Measures.{AreMeasures}
-use Rattle.planner.proofs.Merged.{numbers_of}
-
--- more paths hold more nodes
-nodes_in-append : (p q : List (List ℕ)) → nodes_in (p ++ q) ≡ nodes_in p + nodes_in q
-nodes_in-append [] q = omega arith
-nodes_in-append (x ∷ p) q = omega (arith, nodes_in-append p q)
+use Rattle.planner.specs.Crossed.{AreCrossMeasures}
 
 -- paths of at most 1,000 nodes
 nodes_in-short : (p : List (List ℕ)) → All (λ x. length x ≤ 1000) p → nodes_in p ≤ 1000 * length p
@@ -37,13 +30,13 @@ path_terms-longer pool more (t ∷ ts) names =
 
 -- what is measured of the first k links, with room for the paths of another
 pub record Measuring (g : Network) (m : ℕ → Bool) (k : ℕ) (pool : List (List ℕ)) (recipes : List (List Term)) : Type 0 where
-  pub measured : AreMeasures g m k pool recipes
+  pub measured : AreCrossMeasures g m k pool recipes
   pub room : nodes_in pool ≤ 4000 * k
 
 -- nothing is measured yet
 pub measuring_none : (g : Network) (m : ℕ → Bool) → Measuring g m 0 [] []
 measuring_none g m = record {
-  measured = record { paths = λ k d l. absurd (omega (arith, l)); few = omega arith; one_each = refl; names = λ i l. absurd (omega (arith, l)); named = λ k l. absurd (omega (arith, l)); crosses = λ i l. absurd (omega (arith, l)) };
+  measured = record { paths = λ k d l. absurd (omega (arith, l)); few = omega arith; one_each = refl; names = λ i l. absurd (omega (arith, l)); crosses = λ i l. absurd (omega (arith, l)) };
   room = omega arith;
 }
 
@@ -66,21 +59,6 @@ measuring_more g m k old new recipes terms small s adds =
           | inr ge ↦
               let last : length recipes ≡ i = omega (arith, l, ge, length_push recipes terms) in
               rw (get_or_push recipes terms [] i last) (λ j d below. omega (arith, adds.in_order j d below, below, adds.one_each, size))
-        ];
-        named = λ n l. elim (cases_lt n (length old)) [
-          | inl lt ↦
-              let by = before.named n lt in
-              (by.0, omega (arith, by.1, length_push recipes terms), rw (get_or_append_left recipes (terms ∷ []) [] by.0 by.1) by.2)
-          | inr ge ↦
-              let d : Term = record { coef = pos 0; path = 0 } in
-              let place : n - length old < length terms = omega (arith, l, ge, size, adds.one_each) in
-              let same : (get_or terms (n - length old) d).path ≡ n = omega (arith, adds.in_order (n - length old) d place, ge) in
-              let at : get_or (numbers_of terms) (n - length old) 0 ≡ n = get_or-map (λ (t : Term). t.path) terms (n - length old) d 0 place ∙ same in (
-                length recipes,
-                omega (arith, length_push recipes terms),
-                rw (get_or_push recipes terms [] (length recipes) refl)
-                    (subst (λ v. has (numbers_of terms) v ≡ true) at (has-at (numbers_of terms) (n - length old) 0 (omega (arith, place, length-map terms (λ (t : Term). t.path))))),
-              )
         ];
         crosses = λ i l. elim (cases_lt i (length recipes)) [
           | inl lt ↦ rw (get_or_append_left recipes (terms ∷ []) [] i lt, adds.grown, path_terms-longer old adds.added (get_or recipes i []) (before.names i lt)) (before.crosses i lt)

@@ -50,7 +50,6 @@ between_ordered n a b ne la lb = elim (in_order_ends (link_between (a, b))) [
   | inr e ↦ (omega (arith, e.0, e.1, e.2), omega (arith, e.1))
 ]
 
-
 -- two ends are put in order by exchanging them where the second is lower
 pub in_order_turned : (a b : ℕ) → b < a → link_between (b, a) ≡ in_order (link_between (a, b))
 in_order_turned a b lt = rw (lt-ltb b a lt) refl

@@ -13,8 +13,8 @@ use Rattle.rows.specs.Rows.{RowList}
 use Rattle.plan_form.specs.Parts.{PlanParts}
 use Rattle.plan_form.specs.Order.{path_cmp}
 use Rattle.plan_form.specs.Good.{EndsAscend}
-use Rattle.planner.specs.Planned.{IsPlanFor}
-use Rattle.planner.proofs.Buildable.{path_terms_each}
+use Rattle.planner.specs.Crossed.{IsCrossPlanFor}
+use Rattle.planner.proofs.CrossBuildable.{path_terms_each}
 use Rattle.tomo.specs.Refusals.{only}
 use Rattle.tomo.specs.Answers.{term_row, IsLinkRecipe}
 
@@ -23,7 +23,7 @@ abbrev pub with_path : List (List ℕ) → Term → ℤ × List ℕ
 with_path paths t = (t.coef, get_or paths t.path [])
 
 -- the recipe of a link in a plan for the monitors
-pub link_recipe : (given : List (List ℕ)) (g : Network) (m : List ℕ) (p : PlanParts) (i : ℕ) → IsPlanFor given g m p → i < length p.recipes → IsLinkRecipe g (has m) i (path_terms p.paths (get_or p.recipes i []))
+pub link_recipe : (given : List (List ℕ)) (g : Network) (m : List ℕ) (p : PlanParts) (i : ℕ) → IsCrossPlanFor given g m p → i < length p.recipes → IsLinkRecipe g (has m) i (path_terms p.paths (get_or p.recipes i []))
 link_recipe given g m p i planned l =
     let ts = get_or p.recipes i [] in
     let one = planned.good.recipes.each i l in

@@ -13,7 +13,7 @@ use crate::status::Status;
 use itoa::Buffer;
 use judge::{Verdict, judge};
 use plan_form::Plan;
-use planner::plan_for;
+use planner::cross_plan_for;
 use rows::Rows;
 use simple_path::Term;
 use std::alloc::Global;
@@ -60,7 +60,7 @@ fn tell_recipe(alloc: Global, placed: &Placed, link: u32) -> Result<Answer, NoMe
     if let Verdict::Bad(nodes) = judge(alloc, placed.topology.graph(), &placed.monitors)? {
         return tell_bad(alloc, placed, &nodes);
     }
-    let plan = plan_for(alloc, &placed.topology, &placed.monitors)?;
+    let plan = cross_plan_for(alloc, &placed.topology, &placed.monitors)?;
     Ok(Answer {
         status: Status::Done,
         rows: term_rows(alloc, &placed.topology, &plan, link)?,

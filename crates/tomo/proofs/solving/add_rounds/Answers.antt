@@ -13,7 +13,7 @@ loop-k-preserved c =
       rw c.refusals_of-refused.ensures.count
           (solved_more c.args.measured.now.checked.topology.graph c.args.measured.now.checked.plan c.args.measured.now.rounds c.args.rows.now c.loop-k.rows c.add_round.new.rows c.loop-k.k c.loop-k.refused outcome
           (rw c.len-k-end.ensures at c.loop-k-test.true) so_far c.round.ensures
-          (record { verdict = rw c.graph-graph.ensures.graph at c.solve_into-verdict.ensures.verdict; means = rw c.graph-graph.ensures.graph at c.solve_into-verdict.ensures.means })
+          (record { verdict = rw c.graph-graph.ensures.graph at c.solve_into-verdict.ensures.verdict; means = rw c.graph-graph.ensures.graph at c.solve_into-verdict.ensures.means; tied = rw c.graph-graph.ensures.graph at c.solve_into-verdict.ensures.no_path })
           (rw c.refusals_of-refused.ensures.count at c.refusals_of-refused.ensures.one) c.in_ok-add_round.ensures),
       c.solve_into-verdict.ensures.same_length ∙ room,
     )

@@ -171,8 +171,8 @@ module _ (g : Network) (nodes : List ℕ) (graph : IsGraph g) (below : (v : ℕ)
         let low : (u : ℕ) → IsTrue (S u) → (u < g.nodes) × IsTrue (s u) = λ u m. let p = and_parts (is_node g u) (s u) m in (is_node_below g u p.0, p.1) in
         let inB : (u : ℕ) → IsTrue (S u) → IsTrue (B u) = λ u m. inside u (low u m).0 (low u m).1 in
         t.largest S (λ u m. and_from (is_node g u) (s u) (is_node-from g u (below u (t.inside u m))) (sub u (below u (t.inside u m)) m)) inB
-            (pairwise_from S inB (λ x y c d lx ly mx my xy lc ld parted. unparted x y c d lx ly (low x mx).1 (low y my).1 xy lc ld parted))
-            v (and_from (is_node g v) (s v) (is_node-from g v l) h);
+        (pairwise_from S inB (λ x y c d lx ly mx my xy lc ld parted. unparted x y c d lx ly (low x mx).1 (low y my).1 xy lc ld parted))
+        v (and_from (is_node g v) (s v) (is_node-from g v l) h);
   }
 
   -- and the other way round

@@ -5,8 +5,8 @@ ghost use Rattle.tomo_base.specs.Parting.{IsThreeConnectedIn};
 ghost use Rattle.split_tree.specs.Pieces.{net};
 ghost use Rattle.split_tree.specs.Stages.{IsStage, IsHalved, IsPairCut};
 
-use crate::marks::{marks_of, marks_with, marks_without};
 use crate::marked::part;
+use crate::marks::{marks_of, marks_with, marks_without};
 use crate::piece::Piece;
 use std::alloc::Global;
 use three_conn::{Parting, begin, probe};

@@ -26,11 +26,7 @@ fn marked_nodes(alloc: Global, nodes: &[u32], marks: &[bool]) -> Result<Vec<u32>
 }
 
 // The links between nodes that have a mark.
-pub fn marked_links(
-    alloc: Global,
-    links: &[Link],
-    marks: &[bool],
-) -> Result<Vec<Link>, NoMemory>
+pub fn marked_links(alloc: Global, links: &[Link], marks: &[bool]) -> Result<Vec<Link>, NoMemory>
     requires { All (λ (l : Link). (l.a < length marks.now) × (l.b < length marks.now)) links.now }
     ensures { IfOk result (λ kept. kept.items ≡ filter (is_inside marks.now) links.now) }
 {

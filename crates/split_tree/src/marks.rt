@@ -20,12 +20,7 @@ pub fn marks_of(alloc: Global, n: u32, nodes: &[u32]) -> Result<Vec<bool>, NoMem
 }
 
 // Marks on the nodes of the list and on both ends of the link.
-pub fn marks_with(
-    alloc: Global,
-    n: u32,
-    nodes: &[u32],
-    pair: Link,
-) -> Result<Vec<bool>, NoMemory>
+pub fn marks_with(alloc: Global, n: u32, nodes: &[u32], pair: Link) -> Result<Vec<bool>, NoMemory>
     requires nodes { All (λ v. v < n) nodes.now }
     requires first { pair.a < n }
     requires second { pair.b < n }

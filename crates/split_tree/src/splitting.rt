@@ -7,8 +7,8 @@ ghost use Rattle.split_tree.specs.Stages.{IsStage};
 ghost use Rattle.split_tree.specs.Trees.{Facts, piece_of, depth_of};
 
 use crate::cutting::cut;
-use crate::marks::marks_of;
 use crate::marked::marked_links;
+use crate::marks::marks_of;
 use crate::piece::Piece;
 use crate::tree::{SplitTree, Tree, joined};
 use sqlite_items::Items;

@@ -50,8 +50,25 @@ fn has_three_blocks(
 #[test]
 fn two_complete_graphs_sharing_two_nodes(rt: HostRuntime) -> Result<(), Fail> {
     let ends = [
-        (0, 1), (0, 2), (0, 3), (0, 4), (1, 2), (1, 3), (1, 4), (2, 3), (2, 4), (3, 4),
-        (0, 5), (0, 6), (0, 7), (1, 5), (1, 6), (1, 7), (5, 6), (5, 7), (6, 7),
+        (0, 1),
+        (0, 2),
+        (0, 3),
+        (0, 4),
+        (1, 2),
+        (1, 3),
+        (1, 4),
+        (2, 3),
+        (2, 4),
+        (3, 4),
+        (0, 5),
+        (0, 6),
+        (0, 7),
+        (1, 5),
+        (1, 6),
+        (1, 7),
+        (5, 6),
+        (5, 7),
+        (6, 7),
     ];
     assert!(rt; has_three_blocks(rt.alloc(), 8, &ends, &[&[0, 1, 2, 3, 4], &[0, 1, 5, 6, 7]])?);
     Ok(())
@@ -60,7 +77,15 @@ fn two_complete_graphs_sharing_two_nodes(rt: HostRuntime) -> Result<(), Fail> {
 #[test]
 fn the_prism_and_cycles(rt: HostRuntime) -> Result<(), Fail> {
     let prism = [
-        (0, 1), (1, 2), (2, 0), (3, 4), (4, 5), (5, 3), (0, 3), (1, 4), (2, 5),
+        (0, 1),
+        (1, 2),
+        (2, 0),
+        (3, 4),
+        (4, 5),
+        (5, 3),
+        (0, 3),
+        (1, 4),
+        (2, 5),
     ];
     assert!(rt; has_three_blocks(rt.alloc(), 6, &prism, &[&[0, 1, 2, 3, 4, 5]])?);
     let cycle = [(0, 1), (1, 2), (2, 3), (3, 4), (4, 5), (5, 0)];

@@ -1,0 +1,11 @@
+pub mod Sides
+pub mod Sublists
+pub mod Numbering
+pub mod LaterEars
+pub mod Numbers
+pub mod Extending
+pub mod Ears
+pub mod Spots
+pub mod Gifts
+pub mod Placements
+pub mod Growing

@@ -5,6 +5,10 @@ ghost use Rattle.tomo_base.specs.Walks.{IsConnected};
 ghost use Rattle.tomo_base.specs.Identify.{Identifies};
 ghost use Rattle.indep_trees.specs.Trees.{IsFree, AreTrees, number_in, parent_in};
 
+use crate::counting::{all_later, numbered};
+use crate::placing::placed;
+use ear_order::order;
+use extended_graph::extend;
 use std::alloc::Global;
 use std::marker::Model;
 use tomo_base::{Graph, Link, NoMemory, NodeSet};
@@ -22,14 +26,14 @@ pub struct IndepTrees {
 }
 
 impl Model for IndepTrees {
-    ghost use Rattle.std.specs.Prelude.{◌≡◌, length};
+    ghost use Rattle.std.specs.Prelude.{◌≤◌, length};
     ghost use Rattle.indep_trees.specs.Trees.{Trees};
 
     ghost Value = { Trees };
 
     ghost view = { λ t. record { graph = record { nodes = t.node_count; links = t.links.items }; monitors = t.monitors; numbers = t.numbers.items; first = t.first.items; second = t.second.items; third = t.third.items } };
 
-    ghost invariant = { λ t. (length t.numbers.items ≡ t.node_count) × (length t.first.items ≡ t.node_count) × (length t.second.items ≡ t.node_count) × (length t.third.items ≡ t.node_count) };
+    ghost invariant = { λ t. (t.node_count ≤ length t.numbers.items) × (t.node_count ≤ length t.first.items) × (t.node_count ≤ length t.second.items) × (t.node_count ≤ length t.third.items) };
 }
 
 impl IndepTrees {
@@ -55,7 +59,9 @@ impl IndepTrees {
     }
 }
 
-/// Independent trees for monitors that identify.
+/// Independent trees for monitors that identify: the extended graph is ordered by ears, from the one further node to the least monitor with the
+/// other further node last, and its nodes are put into one order ear by ear. The parents of a node are its two neighbours on its ear and one on
+/// a later ear. After Cheriyan and Maheshwari (1988).
 pub fn trees(alloc: Global, g: &Graph, m: &NodeSet) -> Result<IndepTrees, NoMemory>
     requires connected { IsConnected g.now }
     requires nodes { 3 ≤ g.now.nodes }
@@ -67,5 +73,22 @@ pub fn trees(alloc: Global, g: &Graph, m: &NodeSet) -> Result<IndepTrees, NoMemo
     ensures monitors { IfOk result (λ t. t.monitors ≡ m.now) }
     ensures trees { IfOk result AreTrees }
 {
-    Err(NoMemory)
+    let n = g.nodes();
+    let t = m.as_slice()[0];
+    let wide = extend(alloc, g, m)?;
+    let ears = order(alloc, &wide, n, t, n + 1)?;
+    let places = placed(alloc, n + 2, &ears, n, t)?;
+    let third = all_later(alloc, n, &wide, &places.ears, m)?;
+    let numbers = numbered(alloc, n, &places.order)?;
+    let links = g.links().to_vec(alloc)?;
+    let monitors = m.copy(alloc)?;
+    Ok(IndepTrees {
+        node_count: n,
+        links,
+        monitors,
+        numbers,
+        first: places.low,
+        second: places.high,
+        third,
+    })
 }

@@ -1,6 +1,8 @@
 //! Independent trees of a graph and its monitors.
 #![tactic(auto)]
 
+mod counting;
 mod kept;
+mod placing;
 
 pub use kept::{IndepTrees, trees};

@@ -1,0 +1,130 @@
+use Rattle.std.proofs.Common.{◌+◌, length, ap, ◌∙◌, arith}
+use Rattle.std.proofs.lemmas.List.{length-replicate}
+use Rattle.tomo_base.specs.Search.{entry_at}
+use Rattle.indep_trees.proofs.Placements.{ear_of, ends_placed, ear_facts, placed_none, placed_more, placed_all, zeros}
+use Rattle.indep_trees.proofs.placing.placed.Goals as goal
+
+pub loop-i-init : goal.loop-i-init
+loop-i-init c =
+    let nought = c.in_ok-numbers.ensures.items_if_clones_equal (λ y h. h) in (
+      ap length (c.in_ok-low.ensures.items_if_clones_equal (λ y h. h)) ∙ length-replicate c.args.n 0,
+      ap length (c.in_ok-high.ensures.items_if_clones_equal (λ y h. h)) ∙ length-replicate c.args.n 0,
+      ap length nought ∙ length-replicate c.args.n 0,
+      rw (c.in_ok-push-2.ensures.items, c.in_ok-push.ensures.items, c.new-order.ensures.items) (placed_none c.args.ears.now c.requires.order c.args.r c.args.t c.requires.r c.requires.t (entry_at c.in_ok-low.low.items) (entry_at c.in_ok-high.high.items) (entry_at c.in_ok-numbers.numbers.items)
+          (λ v. ap (λ z. entry_at z v) nought ∙ zeros c.args.n v)),
+    )
+
+pub faced-requires-clause-some : goal.faced-requires-clause-some
+faced-requires-clause-some c =
+    let old = ear_of c.args.ears.now c.requires.order c.args.r c.args.t c.requires.r c.requires.t c.loop-i.i (omega (arith, c.loop-i-test.true, c.len-i-end.ensures.len)) c.ear.result.now c.ear.ensures in
+    omega (arith, old.0.three)
+
+pub faced-requires-clause-first : goal.faced-requires-clause-first
+faced-requires-clause-first c =
+    let old = ear_of c.args.ears.now c.requires.order c.args.r c.args.t c.requires.r c.requires.t c.loop-i.i (omega (arith, c.loop-i-test.true, c.len-i-end.ensures.len)) c.ear.result.now c.ear.ensures in
+    let ends = ends_placed c.args.ears.now.graph c.args.r c.args.t c.args.ears.now.u _ c.loop-i.order.items (entry_at c.loop-i.low.items) (entry_at c.loop-i.high.items) (entry_at c.loop-i.numbers.items) (c.loop-i.i + 1) c.ear.result.now c.loop-i.invariant.3 old.0 in
+    rw c.deref.ensures.value ends.0
+
+pub faced-requires-clause-last : goal.faced-requires-clause-last
+faced-requires-clause-last c =
+    let old = ear_of c.args.ears.now c.requires.order c.args.r c.args.t c.requires.r c.requires.t c.loop-i.i (omega (arith, c.loop-i-test.true, c.len-i-end.ensures.len)) c.ear.result.now c.ear.ensures in
+    let ends = ends_placed c.args.ears.now.graph c.args.r c.args.t c.args.ears.now.u _ c.loop-i.order.items (entry_at c.loop-i.low.items) (entry_at c.loop-i.high.items) (entry_at c.loop-i.numbers.items) (c.loop-i.i + 1) c.ear.result.now c.loop-i.invariant.3 old.0 in
+    rw c.deref.ensures.value ends.1
+
+pub faced-requires-clause-differ : goal.faced-requires-clause-differ
+faced-requires-clause-differ c =
+    let old = ear_of c.args.ears.now c.requires.order c.args.r c.args.t c.requires.r c.requires.t c.loop-i.i (omega (arith, c.loop-i-test.true, c.len-i-end.ensures.len)) c.ear.result.now c.ear.ensures in
+    let ends = ends_placed c.args.ears.now.graph c.args.r c.args.t c.args.ears.now.u _ c.loop-i.order.items (entry_at c.loop-i.low.items) (entry_at c.loop-i.high.items) (entry_at c.loop-i.numbers.items) (c.loop-i.i + 1) c.ear.result.now c.loop-i.invariant.3 old.0 in
+    ends.2
+
+pub widened-requires-clause-long : goal.widened-requires-clause-long
+widened-requires-clause-long c =
+    let old = ear_of c.args.ears.now c.requires.order c.args.r c.args.t c.requires.r c.requires.t c.loop-i.i (omega (arith, c.loop-i-test.true, c.len-i-end.ensures.len)) c.ear.result.now c.ear.ensures in
+    let facts = ear_facts c.args.ears.now.graph c.requires.order.graph _ c.in_ok-ear.ear.items c.ear.result.now c.in_ok-ear.ensures.ear old.0 in
+    rw c.deref-in-loop-i-2.ensures.value facts.1
+
+pub widened-requires-clause-first : goal.widened-requires-clause-first
+widened-requires-clause-first c =
+    let old = ear_of c.args.ears.now c.requires.order c.args.r c.args.t c.requires.r c.requires.t c.loop-i.i (omega (arith, c.loop-i-test.true, c.len-i-end.ensures.len)) c.ear.result.now c.ear.ensures in
+    let facts = ear_facts c.args.ears.now.graph c.requires.order.graph _ c.in_ok-ear.ear.items c.ear.result.now c.in_ok-ear.ensures.ear old.0 in
+    let ends = ends_placed c.args.ears.now.graph c.args.r c.args.t c.args.ears.now.u _ c.loop-i.order.items (entry_at c.loop-i.low.items) (entry_at c.loop-i.high.items) (entry_at c.loop-i.numbers.items) (c.loop-i.i + 1) c.in_ok-ear.ear.items c.loop-i.invariant.3 facts.0 in
+    rw (c.deref-in-loop-i.ensures.value, c.deref-in-loop-i-2.ensures.value) ends.0
+
+pub put-requires-clause-long : goal.put-requires-clause-long
+put-requires-clause-long c =
+    let old = ear_of c.args.ears.now c.requires.order c.args.r c.args.t c.requires.r c.requires.t c.loop-i.i (omega (arith, c.loop-i-test.true, c.len-i-end.ensures.len)) c.ear.result.now c.ear.ensures in
+    let facts = ear_facts c.args.ears.now.graph c.requires.order.graph _ c.in_ok-ear.ear.items c.ear.result.now c.in_ok-ear.ensures.ear old.0 in
+    rw c.deref-in-loop-i-3.ensures.value facts.1
+
+pub put-requires-clause-nodes : goal.put-requires-clause-nodes
+put-requires-clause-nodes c =
+    let old = ear_of c.args.ears.now c.requires.order c.args.r c.args.t c.requires.r c.requires.t c.loop-i.i (omega (arith, c.loop-i-test.true, c.len-i-end.ensures.len)) c.ear.result.now c.ear.ensures in
+    let facts = ear_facts c.args.ears.now.graph c.requires.order.graph _ c.in_ok-ear.ear.items c.ear.result.now c.in_ok-ear.ensures.ear old.0 in
+    rw c.deref-in-loop-i-3.ensures.value (λ k d l. omega (arith, facts.3 k d l, c.requires.nodes, c.loop-i.invariant.0))
+
+pub put-requires-clause-different : goal.put-requires-clause-different
+put-requires-clause-different c =
+    let old = ear_of c.args.ears.now c.requires.order c.args.r c.args.t c.requires.r c.requires.t c.loop-i.i (omega (arith, c.loop-i-test.true, c.len-i-end.ensures.len)) c.ear.result.now c.ear.ensures in
+    let facts = ear_facts c.args.ears.now.graph c.requires.order.graph _ c.in_ok-ear.ear.items c.ear.result.now c.in_ok-ear.ensures.ear old.0 in
+    rw c.deref-in-loop-i-3.ensures.value facts.2
+
+pub put-requires-in-loop-i-clause-long : goal.put-requires-in-loop-i-clause-long
+put-requires-in-loop-i-clause-long c =
+    let old = ear_of c.args.ears.now c.requires.order c.args.r c.args.t c.requires.r c.requires.t c.loop-i.i (omega (arith, c.loop-i-test.true, c.len-i-end.ensures.len)) c.ear.result.now c.ear.ensures in
+    let facts = ear_facts c.args.ears.now.graph c.requires.order.graph _ c.in_ok-ear.ear.items c.ear.result.now c.in_ok-ear.ensures.ear old.0 in
+    rw c.deref-in-loop-i-4.ensures.value facts.1
+
+pub put-requires-in-loop-i-clause-nodes : goal.put-requires-in-loop-i-clause-nodes
+put-requires-in-loop-i-clause-nodes c =
+    let old = ear_of c.args.ears.now c.requires.order c.args.r c.args.t c.requires.r c.requires.t c.loop-i.i (omega (arith, c.loop-i-test.true, c.len-i-end.ensures.len)) c.ear.result.now c.ear.ensures in
+    let facts = ear_facts c.args.ears.now.graph c.requires.order.graph _ c.in_ok-ear.ear.items c.ear.result.now c.in_ok-ear.ensures.ear old.0 in
+    rw c.deref-in-loop-i-4.ensures.value (λ k d l. omega (arith, facts.3 k d l, c.requires.nodes, c.loop-i.invariant.1))
+
+pub put-requires-in-loop-i-clause-different : goal.put-requires-in-loop-i-clause-different
+put-requires-in-loop-i-clause-different c =
+    let old = ear_of c.args.ears.now c.requires.order c.args.r c.args.t c.requires.r c.requires.t c.loop-i.i (omega (arith, c.loop-i-test.true, c.len-i-end.ensures.len)) c.ear.result.now c.ear.ensures in
+    let facts = ear_facts c.args.ears.now.graph c.requires.order.graph _ c.in_ok-ear.ear.items c.ear.result.now c.in_ok-ear.ensures.ear old.0 in
+    rw c.deref-in-loop-i-4.ensures.value facts.2
+
+pub fill-requires-clause-long : goal.fill-requires-clause-long
+fill-requires-clause-long c =
+    let old = ear_of c.args.ears.now c.requires.order c.args.r c.args.t c.requires.r c.requires.t c.loop-i.i (omega (arith, c.loop-i-test.true, c.len-i-end.ensures.len)) c.ear.result.now c.ear.ensures in
+    let facts = ear_facts c.args.ears.now.graph c.requires.order.graph _ c.in_ok-ear.ear.items c.ear.result.now c.in_ok-ear.ensures.ear old.0 in
+    rw c.deref-in-loop-i-5.ensures.value facts.1
+
+pub fill-requires-clause-nodes : goal.fill-requires-clause-nodes
+fill-requires-clause-nodes c =
+    let old = ear_of c.args.ears.now c.requires.order c.args.r c.args.t c.requires.r c.requires.t c.loop-i.i (omega (arith, c.loop-i-test.true, c.len-i-end.ensures.len)) c.ear.result.now c.ear.ensures in
+    let facts = ear_facts c.args.ears.now.graph c.requires.order.graph _ c.in_ok-ear.ear.items c.ear.result.now c.in_ok-ear.ensures.ear old.0 in
+    rw c.deref-in-loop-i-5.ensures.value (λ k d l. omega (arith, facts.3 k d l, c.requires.nodes, c.loop-i.invariant.2))
+
+pub loop-i-preserved : goal.loop-i-preserved
+loop-i-preserved c = (
+  c.put.ensures.size ∙ c.loop-i.invariant.0,
+  c.put-in-loop-i.ensures.size ∙ c.loop-i.invariant.1,
+  c.fill.ensures.size ∙ c.loop-i.invariant.2,
+  placed_more c.args.ears.now c.requires.order c.args.r c.args.t c.requires.r c.requires.t c.loop-i.i (omega (arith, c.loop-i-test.true, c.len-i-end.ensures.len)) c.ear.result.now c.in_ok-ear.ear.items c.loop-i.order.items c.in_ok-order.order.items
+      c.loop-i.low.items c.loop-i.high.items c.loop-i.numbers.items c.put.new.values.items c.put-in-loop-i.new.values.items c.fill.new.values.items c.ear.ensures c.loop-i.invariant.3 c.in_ok-ear.ensures.ear
+      (rw c.deref.ensures.value at c.in_ok-ear.ensures.before)
+      (rw (c.deref-in-loop-i.ensures.value, c.deref-in-loop-i-2.ensures.value) at c.in_ok-order.ensures)
+      (rw c.deref-in-loop-i-3.ensures.value at c.put.ensures.given) (rw c.deref-in-loop-i-3.ensures.value at c.put.ensures.kept)
+      (rw c.deref-in-loop-i-4.ensures.value at c.put-in-loop-i.ensures.given) (rw c.deref-in-loop-i-4.ensures.value at c.put-in-loop-i.ensures.kept)
+      (rw c.deref-in-loop-i-5.ensures.value at c.fill.ensures.given) (rw c.deref-in-loop-i-5.ensures.value at c.fill.ensures.kept),
+)
+
+pub returns-clause-low : goal.returns-clause-low
+returns-clause-low c =
+    c.loop-i.invariant.0
+
+pub returns-clause-high : goal.returns-clause-high
+returns-clause-high c =
+    c.loop-i.invariant.1
+
+pub returns-clause-ears : goal.returns-clause-ears
+returns-clause-ears c =
+    c.loop-i.invariant.2
+
+pub returns-clause-numbered : goal.returns-clause-numbered
+returns-clause-numbered c =
+    placed_all c.args.ears.now c.requires.order c.args.r c.args.t c.requires.r c.requires.t c.loop-i.i (omega (arith, c.loop-i.auto.i-end, c.len-i-end.ensures.len)) (omega (arith, c.loop-i-test.false, c.len-i-end.ensures.len))
+    c.loop-i.order.items (entry_at c.loop-i.low.items) (entry_at c.loop-i.high.items) (entry_at c.loop-i.numbers.items) c.loop-i.invariant.3

@@ -13,7 +13,7 @@ use Rattle.tomo_base.proofs.Counts.{count-mono, count-same}
 use Rattle.tomo_base.proofs.Ascending.{All-has}
 use Rattle.tomo_base.proofs.Members.{has-members}
 use Rattle.tomo_base.proofs.Reaching.{is_node, is_node-from}
-use Rattle.mmp_place.specs.Rule.{narrow, filled, filled_each, every_node, placed_by, IsLargeBlock, IsShort, PassesRule}
+use Rattle.mmp_place.specs.Rule.{narrow, filled, filled_each, every_node, placed_by, IsLargeBlock, IsShortSet, PassesRule}
 use Rattle.blocks.proofs.Cutting.{Block}
 use Rattle.mmp_place.proofs.Nodes.{all_joined, size_every_node}
 use Rattle.mmp_place.proofs.Parts.{ThreeBlock, trim-same, block_of_nodes, three_block_of_nodes}
@@ -177,7 +177,7 @@ module _ (g : Network) (graph : IsGraph g) (connected : IsConnected g) (three : 
           | inl i ↦ passes.three_blocks x (three_of x i).1 short
           | inr i ↦ passes.blocks x (block_of x i).1 short
         ]
-        | inr same ↦ passes.all_nodes (subst (λ z. IsShort g s z) same short)
+        | inr same ↦ passes.all_nodes (subst (λ z. IsShortSet g s z) same short)
       ]) in
       let least = run.least s passes.narrow_nodes meets everything (λ x done. inl (λ v m. refl)) h in
       omega (arith, least, whole (placed_by g threes blocks), whole s)

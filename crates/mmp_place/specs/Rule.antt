@@ -51,12 +51,12 @@ pub record IsPlacedByRule (g : Network) (m : ℕ → Bool) : Type 0 where
   pub placed : (v : ℕ) → v < g.nodes → m v ≡ placed_by g three_blocks blocks v
 
 -- fewer than three nodes of x count
-abbrev pub IsShort : Network → (ℕ → Bool) → (ℕ → Bool) → Type 0
-IsShort g m x = size g (counting g x m) < 3
+abbrev pub IsShortSet : Network → (ℕ → Bool) → (ℕ → Bool) → Type 0
+IsShortSet g m x = size g (counting g x m) < 3
 
 -- m passes the tests of the rule: it holds each node of degree below three, and no three-block, no block of at least three nodes and not the set of all nodes is short
 pub record PassesRule (g : Network) (m : ℕ → Bool) : Type 0 where
   pub narrow_nodes : (v : ℕ) → v < g.nodes → IsTrue (narrow g v) → IsTrue (m v)
-  pub three_blocks : (t : ℕ → Bool) → IsThreeBlock g t → IsShort g m t → ⊥
-  pub blocks : (b : ℕ → Bool) → IsLargeBlock g b → IsShort g m b → ⊥
-  pub all_nodes : IsShort g m (every_node g) → ⊥
+  pub three_blocks : (t : ℕ → Bool) → IsThreeBlock g t → IsShortSet g m t → ⊥
+  pub blocks : (b : ℕ → Bool) → IsLargeBlock g b → IsShortSet g m b → ⊥
+  pub all_nodes : IsShortSet g m (every_node g) → ⊥

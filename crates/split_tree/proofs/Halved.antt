@@ -24,7 +24,7 @@ use Rattle.blocks.proofs.Filtering.{has-filter, IsSetBelow-filter}
 use Rattle.blocks.proofs.Working.{like-from, like-to}
 use Rattle.split_tree.specs.declared.piece.Piece.{Piece}
 use Rattle.split_tree.specs.declared.cutting.Halves.{Halves}
-use Rattle.split_tree.specs.Pieces.{net, IsPiece, IsPart, IsCutInto}
+use Rattle.split_tree.specs.Pieces.{net, IsPiece, IsPartAt, IsCutInto}
 use Rattle.split_tree.specs.Parts.{is_inside, IsMarkedPart}
 use Rattle.split_tree.specs.Stages.{IsStage, IsHalved, IsPairCut}
 use Rattle.split_tree.proofs.Halving.{size_of, half_of}
@@ -186,7 +186,7 @@ module _ (n : ℕ) (p : Piece) (pair : Link) (marks : List Bool) (part : Piece) 
 
   -- a part at the pair, where no link leads out but at the two, and it has a further node
   pub is_part : pair.a ≢ pair.b → (k : ℕ) → IsTrue (has part.nodes k) → k ≢ pair.a → k ≢ pair.b
-      → ((u v : ℕ) → IsTrue (has part.nodes u) → u ≢ pair.a → u ≢ pair.b → IsTrue (any_joins p.links u v) → IsTrue (has part.nodes v)) → IsPart p pair part
+      → ((u v : ℕ) → IsTrue (has part.nodes u) → u ≢ pair.a → u ≢ pair.b → IsTrue (any_joins p.links u v) → IsTrue (has part.nodes v)) → IsPartAt p pair part
   is_part ab k kin ka kb shut =
       let low : (v : ℕ) → IsTrue (has part.nodes v) → v < n = λ v h. piece_below n p is v (part_out v h).0 in
       let a_in = part_in pair.a pa ma in
@@ -201,7 +201,7 @@ module _ (n : ℕ) (p : Piece) (pair : Link) (marks : List Bool) (part : Piece) 
       }
 
   -- a part that lacks a node is to be cut in its turn
-  pub stage_of : IsStage n p → IsPart p pair part → (y : ℕ) → IsTrue (has p.nodes y) → mark_of marks y ≡ false → y ≢ pair.a → IsStage n part × (length part.nodes < length p.nodes)
+  pub stage_of : IsStage n p → IsPartAt p pair part → (y : ℕ) → IsTrue (has p.nodes y) → mark_of marks y ≡ false → y ≢ pair.a → IsStage n part × (length part.nodes < length p.nodes)
   stage_of stage at y py my ya =
       let firm = firm_of n p stage.is stage.nonseparable in
       let out : has part.nodes y ≡ false = in_part y ∙ and_right (has p.nodes y) (mark_of marks y) my in
@@ -251,7 +251,7 @@ halved n p pair side near far left right stage s nears fars lm rm =
     let left_k : (v : ℕ) → IsTrue (has left.nodes v) → IsTrue (K v) ⊎ IsTrue ((v == a) || (v == b)) = λ v h. or_cases (K v) ((v == a) || (v == b)) (sym (nears v) ∙ (l_out v h).1) in
     let to_right : (v : ℕ) → IsTrue (P v) → K v ≡ false → IsTrue (has right.nodes v) = λ v pv out. r_in v pv (fars v ∙ minus-in P K v pv out) in
     let right_off : (v : ℕ) → IsTrue (has right.nodes v) → K v ≡ false = λ v h. (minus-out P K v (sym (fars v) ∙ (r_out v h).1)).1 in
-    let l_at : IsPart p pair left = is_part n p pair near left is lm s.first s.second na nb ab s.some.0 (k_left s.some.0 s.some.1) (s.inside s.some.0 s.some.1).1 (s.inside s.some.0 s.some.1).2
+    let l_at : IsPartAt p pair left = is_part n p pair near left is lm s.first s.second na nb ab s.some.0 (k_left s.some.0 s.some.1) (s.inside s.some.0 s.some.1).1 (s.inside s.some.0 s.some.1).2
     (λ u v lu ua ub link.
     let ku : IsTrue (K u) = elim (left_k u lu) [ inl m ↦ m | inr e ↦ elim (or_cases (u == a) (u == b) e) [ inl i ↦ absurd (ua (eqb-true u a i)) | inr i ↦ absurd (ub (eqb-true u b i)) ] ] in
     let pv = (and_parts (P u) (P v) (is.ends u v link)).1 in
@@ -262,7 +262,7 @@ halved n p pair side near far left right stage s nears fars lm rm =
         | inr vb ↦ k_left v (s.shut u v ku link pv va vb)
       ]
     ]) in
-    let r_at : IsPart p pair right = is_part n p pair far right is rm s.first s.second fa fb ab s.rest.0 (to_right s.rest.0 s.rest.1 s.rest.4) s.rest.2 s.rest.3
+    let r_at : IsPartAt p pair right = is_part n p pair far right is rm s.first s.second fa fb ab s.rest.0 (to_right s.rest.0 s.rest.1 s.rest.4) s.rest.2 s.rest.3
     (λ u v ru ua ub link.
     let pv = (and_parts (P u) (P v) (is.ends u v link)).1 in
     to_right v pv (false_from_ne_true (K v) (λ m. both_ways (K u) (right_off u ru) (s.shut v u m (linked_comm (net n p) u v link) (r_out u ru).0 ua ub)))) in

@@ -14,7 +14,7 @@ use Rattle.tomo_base.specs.Parting.{without_two, IsClosedIn}
 use Rattle.tomo_base.proofs.Parting.{without_two-from, without_two-in, without_two-ne}
 use Rattle.tomo_base.proofs.Picks.{pick2}
 use Rattle.split_tree.specs.declared.piece.Piece.{Piece}
-use Rattle.split_tree.specs.Pieces.{net, IsPiece, IsPart, IsCutInto}
+use Rattle.split_tree.specs.Pieces.{net, IsPiece, IsPartAt, IsCutInto}
 use Rattle.split_tree.proofs.Rigid.{Ends}
 use Rattle.split_tree.proofs.Sound.{Half}
 
@@ -27,7 +27,7 @@ abbrev pub inner : Piece → Link → ℕ → Bool
 inner part pair = without_two (has part.nodes) pair.a pair.b
 
 -- two parts that share the pair alone: the other has a node that the one has not
-pub outer : (n : ℕ) (whole one other : Piece) (pair : Link) → IsPiece n other → IsPart whole pair other
+pub outer : (n : ℕ) (whole one other : Piece) (pair : Link) → IsPiece n other → IsPartAt whole pair other
     → ((v : ℕ) → IsTrue (has one.nodes v) → IsTrue (has other.nodes v) → IsTrue ((v == pair.a) || (v == pair.b)))
     → (v : ℕ) × IsTrue (has whole.nodes v) × (has one.nodes v ≡ false)
 outer n whole one other pair is part shared =
@@ -41,7 +41,7 @@ outer n whole one other pair is part shared =
     )
 
 -- a part, by closed sets
-pub half_of : (n : ℕ) (whole part : Piece) (pair : Link) → IsPiece n whole → IsPiece n part → IsPart whole pair part
+pub half_of : (n : ℕ) (whole part : Piece) (pair : Link) → IsPiece n whole → IsPiece n part → IsPartAt whole pair part
     → (out : ℕ) → IsTrue (has whole.nodes out) → has part.nodes out ≡ false
     → Half (net n whole) (has whole.nodes) (inner part pair) pair.a pair.b (net n part) (has part.nodes)
 half_of n whole part pair is is' at out out_in out_off =

@@ -24,7 +24,7 @@ use Rattle.blocks.proofs.Unparted.{Unparted, Pairwise}
 use Rattle.blocks.proofs.Working.{like-from, each_at, some_at, same_test}
 use Rattle.split_tree.specs.declared.piece.Piece.{Piece}
 use Rattle.split_tree.specs.declared.tree.Tree.{Tree, Small, Rigid, Split', Row_of-Tree-Split-2-1, end_of-Tree-Split-2-1, more_of-Tree-Split-2-1, Row_of-Tree, end_of-Tree, more_of-Tree}
-use Rattle.split_tree.specs.Pieces.{net, IsPiece, IsPart, IsCutInto, IsPieceOf}
+use Rattle.split_tree.specs.Pieces.{net, IsPiece, IsPartAt, IsCutInto, IsPieceOf}
 use Rattle.split_tree.specs.Trees.{piece_of, box_pieces, row_pieces, IsSplit, Facts, BoxFacts, RowFacts, rigids_of, box_rigids, row_rigids, IsSplitTree}
 use Rattle.split_tree.proofs.Rigid.{Owned}
 use Rattle.split_tree.proofs.Sound.{Sound, ThreeBlockIn, small-sound, rigid-sound, split-sound, three-blocks}

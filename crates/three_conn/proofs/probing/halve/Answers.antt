@@ -1,0 +1,9 @@
+use Rattle.std.proofs.Common.{ℕ, ◌≡◌, ◌+◌, ◌-◌, length, arith, sym, ap, ◌∙◌}
+use Rattle.tomo_base.specs.Search.{mark_of, entry_at}
+use Rattle.three_conn.proofs.Whole.{none_across}
+use Rattle.three_conn.proofs.probing.halve.Goals as goal
+
+pub returns-clause-none : goal.returns-clause-none
+returns-clause-none c =
+    let s = c.in_ok-found.found in
+    none_across c.args.g.now c.args.nodes.now c.args.root c.index-last.result.now s c.parting_at.result c.in_ok-found.ensures c.len.result (omega (arith, c.len.ensures, s.order.ok)) c.index-last.ensures c.parting_at.ensures.none

@@ -1,5 +1,5 @@
 -- What no two nodes part is three-connected, and what two nodes part is not.
-use Rattle.std.proofs.Common.{◌≡◌, ℕ, ◌+◌, ◌-◌, ◌<◌, ◌≤◌, ◌⊎◌, Bool, true, false, not, ◌||◌, ◌==◌, List, [], ◌∷◌, length, get_or, replicate, All, IfOk, IfNone, Result, Ok, Err, Option, Some, None, refl, sym, ap, subst, ◌∙◌, inl, inr, arith}
+use Rattle.std.proofs.Common.{◌≡◌, ℕ, ◌-◌, ◌<◌, ◌≤◌, ◌⊎◌, Bool, true, false, not, ◌||◌, ◌==◌, List, [], ◌∷◌, length, get_or, replicate, All, IfOk, IfNone, Result, Ok, Err, Option, Some, None, refl, sym, ap, subst, ◌∙◌, inl, inr, arith}
 use Rattle.std.proofs.lemmas.Bool.{cases_Bool, both_ways, and_parts, and_from, or_cases, or_left, or_right, not_from_false, not-true, false_from_ne_true, eqb-true, eq-eqb, ne_eqb}
 use Rattle.std.proofs.lemmas.List.{get_or-replicate, get_or_default}
 use Rattle.std.proofs.lemmas.Bool.Decides.{nat_tests}
@@ -7,7 +7,7 @@ use Rattle.std.specs.List.Sorted.{IsStrictlyIncreasing}
 use Rattle.tomo_base.specs.Network.{Network, IsGraph}
 use Rattle.tomo_base.specs.Sets.{count, has, size, minus, complement}
 use Rattle.tomo_base.specs.Walks.{IsConnectedIn, everything}
-use Rattle.tomo_base.specs.Search.{mark_of, entry_at, IsSweep}
+use Rattle.tomo_base.specs.Search.{mark_of, IsSweep}
 use Rattle.tomo_base.specs.declared.search.Swept.{Swept}
 use Rattle.tomo_base.specs.Cuts.{IsThreeConnected}
 use Rattle.tomo_base.proofs.Counts.{count_two, count-everything, count-mono}

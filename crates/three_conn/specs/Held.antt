@@ -1,7 +1,6 @@
 -- The root of a set of nodes, nodes that no two others part from it, and how these grow.
-use Rattle.std.specs.Prelude.{ℕ, ◌≡◌, ◌≢◌, ◌<◌, ◌≤◌, ◌⊎◌, Bool, true, not, ◌&&◌, ◌||◌, ◌==◌, length, IsTrue}
+use Rattle.std.specs.Prelude.{ℕ, ◌≡◌, ◌≢◌, ◌<◌, Bool, true, not, ◌&&◌, length, IsTrue}
 use Rattle.tomo_base.specs.Network.{Network, linked}
-use Rattle.tomo_base.specs.Sets.{Within}
 use Rattle.tomo_base.specs.Walks.{Reaches, IsConnectedIn}
 use Rattle.tomo_base.specs.Search.{mark_of}
 use Rattle.tomo_base.specs.Parting.{with_one, without_two}

@@ -67,12 +67,7 @@ fn parting_at(
 }
 
 // Looks for a node that parts the set together with the root.
-fn check(
-    alloc: Global,
-    g: &Graph,
-    nodes: &[bool],
-    root: u32,
-) -> Result<Option<Parting>, NoMemory>
+fn check(alloc: Global, g: &Graph, nodes: &[bool], root: u32) -> Result<Option<Parting>, NoMemory>
     requires marks { length nodes.now ≡ g.now.nodes }
     requires root { root < g.now.nodes }
     ensures all { IfOk result (λ o. IfNone o (IsCheckedTo g.now (mark_of nodes.now) root g.now.nodes)) }
@@ -89,12 +84,7 @@ fn check(
 }
 
 // Looks for two nodes that part a set of at least four nodes: lets the held nodes grow, and where all are held tries each with the root.
-fn seek(
-    alloc: Global,
-    g: &Graph,
-    nodes: &[bool],
-    root: u32,
-) -> Result<Option<Parting>, NoMemory>
+fn seek(alloc: Global, g: &Graph, nodes: &[bool], root: u32) -> Result<Option<Parting>, NoMemory>
     requires marks { length nodes.now ≡ g.now.nodes }
     requires four { 4 ≤ size g.now (mark_of nodes.now) }
     requires root { mark_of nodes.now root ≡ true }
@@ -110,12 +100,7 @@ fn seek(
 }
 
 // Tries the root with the last node that a search from it reaches.
-fn halve(
-    alloc: Global,
-    g: &Graph,
-    nodes: &[bool],
-    root: u32,
-) -> Result<Option<Parting>, NoMemory>
+fn halve(alloc: Global, g: &Graph, nodes: &[bool], root: u32) -> Result<Option<Parting>, NoMemory>
     requires marks { length nodes.now ≡ g.now.nodes }
     requires root { mark_of nodes.now root ≡ true }
     requires node { root < g.now.nodes }

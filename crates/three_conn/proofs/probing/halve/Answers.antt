@@ -1,5 +1,4 @@
-use Rattle.std.proofs.Common.{ℕ, ◌≡◌, ◌+◌, ◌-◌, length, arith, sym, ap, ◌∙◌}
-use Rattle.tomo_base.specs.Search.{mark_of, entry_at}
+use Rattle.std.proofs.Common.{arith}
 use Rattle.three_conn.proofs.Whole.{none_across}
 use Rattle.three_conn.proofs.probing.halve.Goals as goal
 

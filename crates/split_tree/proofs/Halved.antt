@@ -17,8 +17,7 @@ use Rattle.tomo_base.proofs.Parting.{without_two-from, without_two-in, without_t
 use Rattle.tomo_base.proofs.Reaching.{is_node, nodes_in, is_node-from}
 use Rattle.tomo_base.proofs.Picks.{three-count}
 use Rattle.tomo_base.specs.Parting.{IsThreeConnectedIn}
-use Rattle.three_conn.specs.Parting.{IsParted}
-use Rattle.three_conn.specs.Held.{IsParting}
+use Rattle.three_conn.specs.Parting.{IsParted, IsParting}
 use Rattle.three_conn.specs.declared.known.Parting.{Parting}
 use Rattle.blocks.proofs.Filtering.{has-filter, IsSetBelow-filter}
 use Rattle.blocks.proofs.Working.{like-from, like-to}
@@ -55,13 +54,13 @@ three_connected_marks n p marks is same three = record {
 }
 
 -- two nodes that part it
-pub pair_cut_of : (n : ℕ) (p : Piece) (marks : List Bool) (root : ℕ) (held : ℕ → Bool) (cut : Parting) → IsStage n p → ((v : ℕ) → mark_of marks v ≡ has p.nodes v)
-    → IsParting (net n p) (mark_of marks) root held cut → IsPairCut n p cut
-pair_cut_of n p marks root held cut stage same parting =
+pub pair_cut_of : (n : ℕ) (p : Piece) (marks : List Bool) (cut : Parting) → IsStage n p → ((v : ℕ) → mark_of marks v ≡ has p.nodes v)
+    → IsParting (net n p) (mark_of marks) cut → IsPairCut n p cut
+pair_cut_of n p marks cut stage same parting =
     let P : ℕ → Bool = has p.nodes in
     let K : ℕ → Bool = has cut.side.items in
-    let c = cut.c in
-    let d = cut.d in
+    let c = cut.first in
+    let d = cut.second in
     let old = parting.parted in
     let to : (v : ℕ) → IsTrue (without_two (mark_of marks) c d v) → IsTrue (without_two P c d v) = λ v m. let ne = without_two-ne (mark_of marks) c d v m in
     without_two-from P c d v (sym (same v) ∙ without_two-in (mark_of marks) c d v m) ne.0 ne.1 in
@@ -91,31 +90,31 @@ pub record IsSide (n : ℕ) (p : Piece) (pair : Link) (K : ℕ → Bool) : Type 
   pub some : (v : ℕ) × IsTrue (K v)
   pub rest : (v : ℕ) × IsTrue (has p.nodes v) × (v ≢ pair.a) × (v ≢ pair.b) × (K v ≡ false)
 
-pub side_of : (n : ℕ) (p : Piece) (cut : Parting) (a b : ℕ) → a ≡ min cut.c cut.d → b ≡ max cut.c cut.d → IsPairCut n p cut → IsSide n p (record { a = a; b = b }) (has cut.side.items)
-side_of n p cut a b low high pc = elim (cases_lt cut.c cut.d) [
+pub side_of : (n : ℕ) (p : Piece) (cut : Parting) (a b : ℕ) → a ≡ min cut.first cut.second → b ≡ max cut.first cut.second → IsPairCut n p cut → IsSide n p (record { a = a; b = b }) (has cut.side.items)
+side_of n p cut a b low high pc = elim (cases_lt cut.first cut.second) [
   | inl lt ↦ (
-      let e : a ≡ cut.c = omega (arith, low, lt) in
-      let f : b ≡ cut.d = omega (arith, high, lt) in
+      let e : a ≡ cut.first = omega (arith, low, lt) in
+      let f : b ≡ cut.second = omega (arith, high, lt) in
       rw (e, f) (record {
         ordered = lt;
         first = pc.first;
         second = pc.second;
-        inside = λ v m. let i = pc.parted.inside v m in let ne = without_two-ne P cut.c cut.d v i in (without_two-in P cut.c cut.d v i, ne.0, ne.1);
-        shut = λ u v m l pv vc vd. pc.parted.shut u v m l (without_two-from P cut.c cut.d v pv vc vd);
+        inside = λ v m. let i = pc.parted.inside v m in let ne = without_two-ne P cut.first cut.second v i in (without_two-in P cut.first cut.second v i, ne.0, ne.1);
+        shut = λ u v m l pv vc vd. pc.parted.shut u v m l (without_two-from P cut.first cut.second v pv vc vd);
         some = (pc.parted.some.0, pc.parted.some.2);
-        rest = (let i = pc.parted.rest.2 in let ne = without_two-ne P cut.c cut.d pc.parted.rest.0 i in (pc.parted.rest.0, without_two-in P cut.c cut.d pc.parted.rest.0 i, ne.0, ne.1, pc.parted.rest.3));
+        rest = (let i = pc.parted.rest.2 in let ne = without_two-ne P cut.first cut.second pc.parted.rest.0 i in (pc.parted.rest.0, without_two-in P cut.first cut.second pc.parted.rest.0 i, ne.0, ne.1, pc.parted.rest.3));
       }))
   | inr ge ↦ (
-      let e : a ≡ cut.d = omega (arith, low, ge) in
-      let f : b ≡ cut.c = omega (arith, high, ge) in
+      let e : a ≡ cut.second = omega (arith, low, ge) in
+      let f : b ≡ cut.first = omega (arith, high, ge) in
       rw (e, f) (record {
         ordered = omega (arith, ge, pc.differ);
         first = pc.second;
         second = pc.first;
-        inside = λ v m. let i = pc.parted.inside v m in let ne = without_two-ne P cut.c cut.d v i in (without_two-in P cut.c cut.d v i, ne.1, ne.0);
-        shut = λ u v m l pv vd vc. pc.parted.shut u v m l (without_two-from P cut.c cut.d v pv vc vd);
+        inside = λ v m. let i = pc.parted.inside v m in let ne = without_two-ne P cut.first cut.second v i in (without_two-in P cut.first cut.second v i, ne.1, ne.0);
+        shut = λ u v m l pv vd vc. pc.parted.shut u v m l (without_two-from P cut.first cut.second v pv vc vd);
         some = (pc.parted.some.0, pc.parted.some.2);
-        rest = (let i = pc.parted.rest.2 in let ne = without_two-ne P cut.c cut.d pc.parted.rest.0 i in (pc.parted.rest.0, without_two-in P cut.c cut.d pc.parted.rest.0 i, ne.1, ne.0, pc.parted.rest.3));
+        rest = (let i = pc.parted.rest.2 in let ne = without_two-ne P cut.first cut.second pc.parted.rest.0 i in (pc.parted.rest.0, without_two-in P cut.first cut.second pc.parted.rest.0 i, ne.1, ne.0, pc.parted.rest.3));
       }))
 ]
   where

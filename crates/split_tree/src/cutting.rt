@@ -9,7 +9,7 @@ use crate::marked::part;
 use crate::marks::{marks_of, marks_with, marks_without};
 use crate::piece::Piece;
 use std::alloc::Global;
-use three_conn::{Parting, begin, probe};
+use three_conn::{Parting, probe};
 use tomo_base::{Graph, GraphFault, Link, NoMemory};
 
 // Two nodes, and the two parts into which they cut a piece.
@@ -46,8 +46,7 @@ fn parting_of(alloc: Global, n: u32, piece: &Piece) -> Result<Option<Parting>, N
     let g = graph_of(alloc, n, piece)?;
     let nodes = piece.nodes.as_slice();
     let marks = marks_of(alloc, n, nodes)?;
-    let mut known = begin(alloc, &g, &marks, nodes[0])?;
-    match probe(alloc, &g, &marks, &mut known)? {
+    match probe(alloc, &g, &marks, nodes[0])? {
         Some(parting) => Ok(Some(parting)),
         None => Ok(None),
     }
@@ -65,8 +64,8 @@ pub fn cut(alloc: Global, n: u32, piece: &Piece) -> Result<Option<Halves>, NoMem
         return Ok(None);
     };
     let pair = Link {
-        a: parting.c.min(parting.d),
-        b: parting.c.max(parting.d),
+        a: parting.first.min(parting.second),
+        b: parting.first.max(parting.second),
     };
     let near = marks_with(alloc, n, &parting.side, pair)?;
     let far = marks_without(alloc, n, piece.nodes.as_slice(), &parting.side)?;

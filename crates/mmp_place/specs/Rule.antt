@@ -1,5 +1,5 @@
 -- The placement rule: begin with the nodes of degree below three, then fill every three-block, every block of at least three nodes, and the set of all nodes.
-use Rattle.std.specs.Prelude.{ℕ, ◌≡◌, ◌-◌, ◌<◌, ◌≤◌, Bool, ◌&&◌, ◌||◌, nat_lt, IsTrue, List, [], ◌∷◌}
+use Rattle.std.specs.Prelude.{ℕ, ◌≡◌, ◌-◌, ◌<◌, ◌≤◌, ◌⊎◌, Bool, ◌&&◌, ◌||◌, nat_lt, IsTrue, List, [], ◌∷◌}
 use Rattle.tomo_base.specs.Network.{Network}
 use Rattle.tomo_base.specs.Sets.{has, count, size, degree, touches, minus, complement}
 use Rattle.tomo_base.specs.Blocks.{IsBlock, IsThreeBlock}
@@ -49,6 +49,14 @@ pub record IsPlacedByRule (g : Network) (m : ℕ → Bool) : Type 0 where
   pub all_three_blocks : AreSetsWith g.nodes (IsThreeBlock g) three_blocks
   pub all_blocks : AreSetsWith g.nodes (IsLargeBlock g) blocks
   pub placed : (v : ℕ) → v < g.nodes → m v ≡ placed_by g three_blocks blocks v
+
+-- a set of nodes that the rule fills: a three-block, a block of at least three nodes, or all nodes
+abbrev pub IsRuleSet : Network → (ℕ → Bool) → Type 0
+IsRuleSet g x = ((v : ℕ) → IsTrue (x v) → v < g.nodes) × (IsThreeBlock g x ⊎ (IsLargeBlock g x ⊎ ((v : ℕ) → v < g.nodes → IsTrue (x v))))
+
+-- the nodes of x with all neighbours in x
+abbrev pub free_nodes : Network → (ℕ → Bool) → ℕ → Bool
+free_nodes g x v = minus x (touches g (complement x)) v
 
 -- fewer than three nodes of x count
 abbrev pub IsShortSet : Network → (ℕ → Bool) → (ℕ → Bool) → Type 0

@@ -1,19 +1,18 @@
 -- Two nodes that part a piece that no single node cuts, and the two parts that marks make of it.
-use Rattle.std.proofs.Common.{◌≡◌, ◌≢◌, ℕ, zero, suc, ◌+◌, ◌<◌, ◌≤◌, ◌⊎◌, min, max, Bool, true, false, not, ◌&&◌, ◌||◌, ◌==◌, List, [], ◌∷◌, length, get_or, IsTrue, refl, sym, ap, ap₂, ◌∙◌, subst, inl, inr, arith}
+use Rattle.std.proofs.Common.{◌≡◌, ◌≢◌, ℕ, zero, suc, ◌<◌, ◌≤◌, ◌⊎◌, min, max, Bool, true, false, not, ◌&&◌, ◌||◌, ◌==◌, List, [], ◌∷◌, length, get_or, IsTrue, refl, sym, ap, ap₂, ◌∙◌, subst, inl, inr, arith}
 use Rattle.std.specs.List.{filter}
 use Rattle.std.proofs.lemmas.Bool.{cases_eq, cases_lt, cases_Bool, both_ways, and_parts, and_from, and_left, and_right, or_cases, or_left, or_right, or_from, eqb-true, eq-eqb, false_from_ne_true}
 use Rattle.tomo_base.specs.declared.graph.Link.{Link}
-use Rattle.tomo_base.specs.Network.{Network, joins, any_joins, linked, AreLinks}
-use Rattle.tomo_base.specs.Sets.{has, size, count, minus, Within}
+use Rattle.tomo_base.specs.Network.{joins, any_joins}
+use Rattle.tomo_base.specs.Sets.{has, minus}
 use Rattle.tomo_base.specs.Search.{mark_of}
-use Rattle.tomo_base.specs.SetLists.{IsSetBelow}
 use Rattle.tomo_base.specs.Blocks.{IsNonseparable}
 use Rattle.tomo_base.proofs.Counts.{count-same}
 use Rattle.tomo_base.proofs.Links.{linked_comm, joins_gives}
 use Rattle.tomo_base.proofs.Ascending.{place_in}
 use Rattle.tomo_base.proofs.Walks.{connected_inside}
-use Rattle.tomo_base.specs.Parting.{without_two, IsClosedIn, IsJoinedIn, IsJoinedWithoutOne}
-use Rattle.tomo_base.proofs.Parting.{without_two-from, without_two-in, without_two-ne, without-from, without-parts, minus-in, minus-out, flip, joined-same}
+use Rattle.tomo_base.specs.Parting.{without_two, IsJoinedWithoutOne}
+use Rattle.tomo_base.proofs.Parting.{without_two-from, without_two-in, without_two-ne, without-from, without-parts, minus-in, minus-out, joined-same}
 use Rattle.tomo_base.proofs.Reaching.{is_node, nodes_in, is_node-from}
 use Rattle.tomo_base.proofs.Picks.{three-count}
 use Rattle.tomo_base.specs.Parting.{IsThreeConnectedIn}
@@ -22,14 +21,13 @@ use Rattle.three_conn.specs.declared.known.Parting.{Parting}
 use Rattle.blocks.proofs.Filtering.{has-filter, IsSetBelow-filter}
 use Rattle.blocks.proofs.Working.{like-from, like-to}
 use Rattle.split_tree.specs.declared.piece.Piece.{Piece}
-use Rattle.split_tree.specs.declared.cutting.Halves.{Halves}
-use Rattle.split_tree.specs.Pieces.{net, IsPiece, IsPartAt, IsCutInto}
+use Rattle.split_tree.specs.Pieces.{net, IsPiece, IsPartAt}
 use Rattle.split_tree.specs.Parts.{is_inside, IsMarkedPart}
 use Rattle.split_tree.specs.Stages.{IsStage, IsHalved, IsPairCut}
 use Rattle.split_tree.proofs.Halving.{size_of, half_of}
 use Rattle.split_tree.proofs.Pass.{part-like, cut-is-pair}
 use Rattle.split_tree.proofs.Sounding.{piece_below}
-use Rattle.split_tree.proofs.MarkedLinks.{any_filter, filter_le, filter_less}
+use Rattle.split_tree.proofs.MarkedLinks.{any_filter, filter_less}
 
 -- a piece that no single node cuts, by closed sets
 pub firm_of : (n : ℕ) (p : Piece) → IsPiece n p → IsNonseparable (net n p) (has p.nodes) → IsJoinedWithoutOne (net n p) (has p.nodes)

@@ -1,10 +1,10 @@
-use Rattle.std.proofs.Common.{◌≡◌, ℕ, ◌<◌, ◌≤◌, ◌∙◌, length, true, refl, ap, arith, sym, subst}
-use Rattle.tomo_base.specs.Sets.{has, size, count}
+use Rattle.std.proofs.Common.{◌≡◌, ◌∙◌, length, ap, arith}
+use Rattle.tomo_base.specs.Sets.{has, count}
 use Rattle.tomo_base.specs.Search.{mark_of}
 use Rattle.tomo_base.proofs.Counts.{count-same}
 use Rattle.tomo_base.proofs.Ascending.{has-at}
 use Rattle.split_tree.proofs.Halving.{size_of}
-use Rattle.split_tree.proofs.Halved.{three_connected_marks, pair_cut_of}
+use Rattle.split_tree.proofs.Halved.{pair_cut_of}
 use Rattle.split_tree.proofs.cutting.parting_of.Goals as goal
 
 pub probe-requires-clause-root : goal.probe-requires-clause-root

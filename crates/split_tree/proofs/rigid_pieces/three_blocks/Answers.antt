@@ -1,9 +1,9 @@
-use Rattle.std.proofs.Common.{◌≡◌, ℕ, ◌+◌, ◌<◌, ◌≤◌, ◌∙◌, ◌++◌, [], List, length, ap, sym, subst, arith, Vec, Contains}
+use Rattle.std.proofs.Common.{◌≡◌, ℕ, ◌+◌, ◌≤◌, ◌∙◌, ◌++◌, [], List, length, ap, sym, subst, arith, Vec, Contains}
 use Rattle.std.specs.Global.{Global}
 use Rattle.std.proofs.lemmas.List.{length-map}
 use Rattle.tomo_base.specs.Sets.{has}
 use Rattle.tomo_base.specs.Blocks.{IsThreeBlockOf}
-use Rattle.tomo_base.specs.NodeLists.{node_limit, IsNodeSet}
+use Rattle.tomo_base.specs.NodeLists.{node_limit}
 use Rattle.tomo_base.proofs.Ascending.{length-node_set}
 use Rattle.tomo_base.specs.SetLists.{AreAllSets}
 use Rattle.blocks.specs.Lists.{lists_of}
@@ -11,7 +11,6 @@ use Rattle.blocks.proofs.SameSets.{sets_same, node_sets, node_set}
 use Rattle.split_tree.specs.Trees.{piece_of, rigids_of}
 use Rattle.split_tree.proofs.Sounding.{tree_three_blocks, rigid_sets, piece_is}
 use Rattle.split_tree.proofs.Fewness.{few_rigids}
-use Rattle.split_tree.proofs.Halving.{size_of}
 use Rattle.split_tree.proofs.rigid_pieces.three_blocks.Goals as goal
 
 -- what was collected

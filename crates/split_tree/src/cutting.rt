@@ -35,7 +35,8 @@ fn graph_of(alloc: Global, n: u32, piece: &Piece) -> Result<Graph, NoMemory>
     }
 }
 
-// Two nodes that part the piece, and one side.
+// Two nodes that part the piece, and one side: they are looked for around a node in the middle of the list, so that a long piece whose
+// nodes are numbered along it is cut near its middle.
 fn parting_of(alloc: Global, n: u32, piece: &Piece) -> Result<Option<Parting>, NoMemory>
     requires stage { IsStage n piece.now }
     requires few { n ≤ 10000 }
@@ -46,7 +47,8 @@ fn parting_of(alloc: Global, n: u32, piece: &Piece) -> Result<Option<Parting>, N
     let g = graph_of(alloc, n, piece)?;
     let nodes = piece.nodes.as_slice();
     let marks = marks_of(alloc, n, nodes)?;
-    match probe(alloc, &g, &marks, nodes[0])? {
+    let middle = nodes[nodes.len() / 2];
+    match probe(alloc, &g, &marks, middle)? {
         Some(parting) => Ok(Some(parting)),
         None => Ok(None),
     }

@@ -1,4 +1,4 @@
-use Rattle.std.proofs.Common.{◌≡◌, ◌∙◌, length, ap, arith}
+use Rattle.std.proofs.Common.{◌≡◌, ◌∙◌, ◌/◌, ◌≤◌, length, ap, arith}
 use Rattle.tomo_base.specs.Sets.{has, count}
 use Rattle.tomo_base.specs.Search.{mark_of}
 use Rattle.tomo_base.proofs.Counts.{count-same}
@@ -8,7 +8,10 @@ use Rattle.split_tree.proofs.Halved.{pair_cut_of}
 use Rattle.split_tree.proofs.cutting.parting_of.Goals as goal
 
 pub probe-requires-clause-root : goal.probe-requires-clause-root
-probe-requires-clause-root c = rw c.deref.ensures.value (c.in_ok-marks.ensures.marks _ ∙ has-at c.as_slice-nodes.result.now 0 0 (rw c.as_slice-nodes.ensures (omega (arith, c.requires.four))))
+probe-requires-clause-root c =
+    let xs = c.as_slice-nodes.result.now in
+    let many : 4 ≤ length xs = rw c.as_slice-nodes.ensures c.requires.four in
+    rw c.deref.ensures.value (c.in_ok-marks.ensures.marks _ ∙ has-at xs (length xs / 2) 0 (omega (arith, many)))
 
 pub probe-requires-clause-four : goal.probe-requires-clause-four
 probe-requires-clause-four c =

@@ -110,7 +110,8 @@ def main():
             if measure(program, ["plan", topology], plan)[2] != 0:
                 sys.exit(f"{name}: no plan")
             apart(lambda: write_inputs(plan, monitors, rounds))
-            commands = [["plan", topology], ["judge", topology, monitors], ["paths", topology, monitors], ["check", topology, plan], ["solve", topology, plan, rounds]]
+            commands = [["plan", topology], ["components", topology], ["trees", topology], ["judge", topology, monitors], ["paths", topology, monitors]]
+            commands += [["check", topology, plan], ["solve", topology, plan, rounds]]
             for words in commands:
                 seconds, memory, status = measure(program, words, output)
                 line = f"{name}: {words[0]} {seconds:.2f} s, {memory:.0f} MB"

@@ -58,6 +58,8 @@ def runs_in(work):
         ["plan", "--header", EXAMPLES + "ring.csv"],
         ["plan", hub],
         ["judge", "--header", campus, EXAMPLES + "campus_monitors.csv"],
+        ["components", "--header", campus],
+        ["trees", hub],
         ["judge", hub, monitors],
         ["paths", hub, monitors],
         ["link", hub, monitors, "hub", "c"],

@@ -1,9 +1,9 @@
 // The blocks and the cut vertices of a connected graph.
-ghost use Rattle.std.specs.Prelude.{ℕ, ◌≡◌, ◌≤◌, ◌<◌, ◌^◌, ◌↔◌, length, IsTrue, IfOk};
+ghost use Rattle.std.specs.Prelude.{ℕ, ◌≡◌, ◌≤◌, ◌<◌, ◌*◌, ◌↔◌, length, IsTrue, IfOk};
 ghost use Rattle.tomo_base.specs.Sets.{has, members};
 ghost use Rattle.tomo_base.specs.Walks.{IsConnected, everything};
 ghost use Rattle.tomo_base.specs.Blocks.{IsBlock, IsCutVertex};
-ghost use Rattle.tomo_base.specs.SetLists.{AreSetsWith, AreAllSets};
+ghost use Rattle.tomo_base.specs.SetLists.{IsSetBelow, AreSetsWith, AreAllSets};
 ghost use Rattle.blocks.specs.Lists.{lists_of};
 
 use crate::node_lists::ordered_sets;
@@ -28,14 +28,14 @@ impl Model for BlockList {
 }
 
 impl BlockList {
-    /// The cut vertices.
+    /// The cut vertices. It takes no memory.
     pub fn cuts(&self) -> &NodeSet
         ensures { result.now ≡ self.now.cuts }
     {
         &self.cuts
     }
 
-    /// The blocks, in lexicographic order.
+    /// The blocks, in lexicographic order. It takes no memory.
     pub fn list(&self) -> &NodeSets
         ensures { result.now ≡ self.now.list }
     {
@@ -78,7 +78,8 @@ fn is_cut(alloc: Global, g: &Graph, all: &[u32], v: u32) -> Result<bool, NoMemor
 // The nodes without which the graph is not connected.
 fn cut_vertices(alloc: Global, g: &Graph) -> Result<NodeSet, NoMemory>
     requires { 2 ≤ g.now.nodes }
-    ensures { IfOk result (λ cuts. (v : ℕ) → IsTrue (has cuts v) ↔ IsCutVertex g.now v) }
+    ensures cuts { IfOk result (λ cuts. (v : ℕ) → IsTrue (has cuts v) ↔ IsCutVertex g.now v) }
+    ensures set { IfOk result (IsSetBelow g.now.nodes) }
 {
     let all = all_nodes(alloc, g.nodes())?;
     let mut cuts = NodeSet::new(alloc);
@@ -95,7 +96,7 @@ fn cut_up(alloc: Global, g: &Graph) -> Result<Vec<Vec<u32>>, NoMemory>
     requires connected { IsConnected g.now }
     requires two { 2 ≤ g.now.nodes }
     ensures blocks { IfOk result (λ found. AreSetsWith g.now.nodes (IsBlock g.now) (lists_of found.items)) }
-    ensures few { IfOk result (λ found. length found.items < 2 ^ 32) }
+    ensures few { IfOk result (λ found. length found.items ≤ 2 * g.now.nodes) }
 {
     let mut found = Vec::new(alloc);
     let mut todo = Vec::new(alloc);
@@ -122,13 +123,16 @@ fn cut_up(alloc: Global, g: &Graph) -> Result<Vec<Vec<u32>>, NoMemory>
 }
 
 /// The blocks and the cut vertices of a connected graph: exactly the largest sets of two nodes or more that are connected and stay so
-/// without any one node, and exactly the nodes without which the graph is not connected. Sets are cut at nodes that part them until none is
-/// left. The searches, each linear in nodes and links, are at most about two for each node and three for each block.
+/// without any one node, and exactly the nodes without which the graph is not connected, ascending. Sets are cut at nodes that part them until
+/// none is left. After Hopcroft and Tarjan (1973), in another way: not one search numbers all nodes, but each node is tried by a search of
+/// its own. The searches, each linear in nodes and links, are at most about two for each node and three for each block.
 pub fn blocks(alloc: Global, g: &Graph) -> Result<BlockList, NoMemory>
     requires connected { IsConnected g.now }
     requires two { 2 ≤ g.now.nodes }
     ensures cuts { IfOk result (λ b. (v : ℕ) → IsTrue (has b.cuts v) ↔ IsCutVertex g.now v) }
+    ensures ascending { IfOk result (λ b. IsSetBelow g.now.nodes b.cuts) }
     ensures blocks { IfOk result (λ b. AreAllSets g.now.nodes (IsBlock g.now) b.list) }
+    ensures few { IfOk result (λ b. length b.list ≤ 2 * g.now.nodes) }
 {
     let _nodes = g.nodes();
     let found = cut_up(alloc, g)?;

@@ -4,8 +4,6 @@
 mod block_list;
 mod node_lists;
 mod sides;
-#[cfg(test)]
-mod tests;
 
 pub use block_list::{BlockList, blocks};
 pub use node_lists::ordered_sets;

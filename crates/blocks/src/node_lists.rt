@@ -31,11 +31,13 @@ fn set_of(alloc: Global, nodes: &[u32]) -> Result<NodeSet, NoMemory>
     Ok(set)
 }
 
-/// The sets with these nodes, each of which ascends, in lexicographic order and each once.
+/// The sets with these nodes, each of which ascends, in lexicographic order and each once. The lists are sorted and copied: of k lists with
+/// m nodes in all, in the order of m log k steps.
 pub fn ordered_sets(alloc: Global, mut lists: Vec<Vec<u32>>) -> Result<NodeSets, NoMemory>
     requires sets { All IsNodeSet (lists_of lists.items) }
     requires few { length lists.items < 2 ^ 32 }
     ensures ascending { IfOk result (IsStrictlySortedBy set_cmp) }
+    ensures no_more { IfOk result (λ sets. length sets ≤ length lists.items) }
     ensures same { IfOk result (λ sets. (q : List ℕ) → Contains sets q ↔ Contains (lists_of lists.items) q) }
 {
     sort_lists(&mut lists);

@@ -33,6 +33,9 @@ fn marks_without(alloc: Global, n: u32, nodes: &[u32], out: u32) -> Result<Vec<b
     Ok(marks)
 }
 
+// How many nodes a side has that has the cutting node alone.
+const ALONE: usize = 1;
+
 // The two sides of a set that its node `cut` cuts, or none where the rest is connected. One search.
 pub fn sides_at(
     alloc: Global,
@@ -63,7 +66,7 @@ pub fn sides_at(
             far.push(v)?;
         }
     }
-    if far.len() == 1 {
+    if far.len() == ALONE {
         return Ok(None);
     }
     Ok(Some(Sides { cut, near, far }))

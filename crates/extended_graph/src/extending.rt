@@ -6,7 +6,7 @@ use std::alloc::Global;
 use tomo_base::{Graph, GraphFault, Link, NoMemory, NodeSet};
 
 /// The graph with two further nodes, each linked to every monitor: its links come first, then for each monitor, ascending, the link to the
-/// one and the link to the other.
+/// one and the link to the other. Linear in nodes and links. After Ma, He, Leung, Swami and Towsley (2013).
 pub fn extend(alloc: Global, g: &Graph, m: &NodeSet) -> Result<Graph, NoMemory>
     requires nodes { All (λ v. v < g.now.nodes) m.now }
     requires few_nodes { g.now.nodes ≤ 9998 }

@@ -2,8 +2,6 @@
 #![tactic(auto)]
 
 mod extending;
-#[cfg(test)]
-mod tests;
 
 ghost use Rattle.extended_graph.specs.Laws.{ThreeConnectedByMonitors};
 

@@ -1,6 +1,7 @@
 -- Which nodes stand in no bad part, and that the first other one has the bad set around it.
 use Rattle.std.proofs.Common.{ℕ, ◌≡◌, ◌<◌, ◌≤◌, ◌+◌, Bool, List, true, IsTrue, All, arith, inl, inr, refl}
 use Rattle.std.proofs.lemmas.Bool.{both_ways, cases_eq}
+use Rattle.std.specs.List.Sorted.{IsStrictlyIncreasing}
 use Rattle.tomo_base.specs.Network.{Network, IsGraph}
 use Rattle.tomo_base.specs.Sets.{has, size, outside}
 use Rattle.tomo_base.specs.Walks.{IsConnected}
@@ -38,9 +39,9 @@ pub all_clear : (g : Network) (m : ℕ → Bool) → IsClear g m g.nodes → NoB
 all_clear g m clear p bad = let some = count_gives g.nodes p bad.nonempty in omega (arith, some.1, clear p bad some.0 some.1 some.2)
 
 -- the first node that fewer than three nodes cut off has the bad set around it
-pub found_bad : (g : Network) (m : ℕ → Bool) (v k : ℕ) (nodes : List ℕ) → IsGraph g → IsConnected g → 3 ≤ g.nodes → v < g.nodes → IsClear g m v → k < 3 → IsLeastCutOff g m v k (has nodes) → All (λ u. u < g.nodes) nodes
+pub found_bad : (g : Network) (m : ℕ → Bool) (v k : ℕ) (nodes : List ℕ) → IsGraph g → IsConnected g → 3 ≤ g.nodes → v < g.nodes → IsClear g m v → k < 3 → IsLeastCutOff g m v k (has nodes) → All (λ u. u < g.nodes) nodes → IsStrictlyIncreasing nodes
     → IsFoundBad g m nodes
-found_bad g m v k nodes graph connected three node clear few least below =
+found_bad g m v k nodes graph connected three node clear few least below ascending =
     let q = has nodes in
     let bad : IsBadPart g m q = record { nonempty = count-some g.nodes q v node least.cut.holds; free = least.cut.free; few = rw least.cut.bounded (omega (arith, few)) } in
     record {
@@ -56,6 +57,7 @@ found_bad g m v k nodes graph connected three node clear few least below =
         is_met = λ u l. (λ at p cut. least.least p cut u l at, λ all. all q least.cut);
       };
       below = below;
+      ascending = ascending;
     }
 
 -- where there is a bad set the extended graph is not three-connected

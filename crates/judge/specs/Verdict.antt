@@ -1,5 +1,6 @@
 -- What a set of monitors comes to.
 use Rattle.std.specs.Prelude.{ℕ, ◌<◌, Bool, List, All}
+use Rattle.std.specs.List.Sorted.{IsStrictlyIncreasing}
 use Rattle.tomo_base.specs.Network.{Network}
 use Rattle.tomo_base.specs.Sets.{has}
 use Rattle.tomo_base.specs.Identify.{Identifies}
@@ -8,11 +9,12 @@ use Rattle.tomo_base.specs.Cuts.{extended, IsThreeConnected}
 use Rattle.judge.specs.declared.monitors.Verdict.{Verdict}
 use Rattle.judge.specs.declared.monitors.Verdict.TheVariants.{Yes, Bad}
 
--- the list is the bad set, and the monitors do not identify every link
+-- the list is the bad set, ascending, and the monitors do not identify every link
 pub record IsFoundBad (g : Network) (m : ℕ → Bool) (nodes : List ℕ) : Type 0 where
   pub unidentified : Identifies g m → ⊥
   pub bad_set : IsBadSet g m (has nodes)
   pub below : All (λ v. v < g.nodes) nodes
+  pub ascending : IsStrictlyIncreasing nodes
 
 -- either they identify every link, or the bad set tells that they do not
 abbrev pub IsVerdict : Network → (ℕ → Bool) → Verdict → Type 0

@@ -2,7 +2,5 @@
 #![tactic(auto)]
 
 mod monitors;
-#[cfg(test)]
-mod tests;
 
 pub use monitors::{Verdict, judge};

@@ -12,7 +12,7 @@ use Rattle.tomo_base.proofs.Reaching.{is_node, is_node_below, is_node-from, join
 use Rattle.blocks.proofs.Cutting.{BlockLike, block-over}
 use Rattle.blocks.proofs.Working.{block-to}
 use Rattle.blocks.proofs.Unparted.{unparted-block, unparted-graph}
-use Rattle.mmp_place.specs.Rule.{counting, IsShort, PassesRule}
+use Rattle.mmp_place.specs.Rule.{counting, IsShortSet, PassesRule}
 use Rattle.mmp_place.proofs.Nodes.{ends_are, differ, size_every_node}
 use Rattle.mmp_place.proofs.Parts.{three_block_gives}
 use Rattle.mmp_place.proofs.Short.{leaves, leaves_gives, HasGates, bad_gates, short_bad, narrow_bad}
@@ -58,7 +58,7 @@ module _ (g : Network) (m q : ℕ → Bool) (graph : IsGraph g) (whole : IsJoine
         (qp u iu) (qp p ip) (a_in g q a b is) (b_in g q a b is) (flip p_other) (out a is.a_off u iu) (out b is.b_off u iu) (out a is.a_off p ip) (out b is.b_off p ip) is.differ
 
     -- only the two neighbours count
-    short : IsShort g m (with_two q a b)
+    short : IsShortSet g m (with_two q a b)
     short = omega (
       arith,
       two-at-most g.nodes (counting g (with_two q a b) m) a b (λ v l h.

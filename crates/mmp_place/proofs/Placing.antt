@@ -3,7 +3,7 @@ use Rattle.std.proofs.Common.{◌≡◌, ℕ, zero, suc, ◌<◌, ◌≤◌, nat
 use Rattle.std.proofs.lemmas.Bool.{and_parts, and_from}
 use Rattle.std.proofs.lemmas.List.Elements.{All-head, All-tail}
 use Rattle.tomo_base.specs.Network.{Network, IsGraph}
-use Rattle.tomo_base.specs.Sets.{has, members, size, meet, Within, IsInside}
+use Rattle.tomo_base.specs.Sets.{has, members, size, meet, Within, Apart, IsInside}
 use Rattle.tomo_base.specs.Walks.{everything, IsConnected}
 use Rattle.tomo_base.specs.BadParts.{NoBadPart}
 use Rattle.tomo_base.specs.Lowest.{size_from}
@@ -13,7 +13,8 @@ use Rattle.tomo_base.proofs.Counts.{count-mono, count-same}
 use Rattle.tomo_base.proofs.Ascending.{All-has}
 use Rattle.tomo_base.proofs.Members.{has-members}
 use Rattle.tomo_base.proofs.Reaching.{is_node, is_node-from}
-use Rattle.mmp_place.specs.Rule.{narrow, filled, filled_each, every_node, placed_by, IsLargeBlock, IsShort, PassesRule}
+use Rattle.mmp_place.specs.Rule.{narrow, filled, filled_each, every_node, placed_by, IsLargeBlock, IsShortSet, PassesRule}
+use Rattle.mmp_place.specs.Laws.{FreeNodesAreNested}
 use Rattle.blocks.proofs.Cutting.{Block}
 use Rattle.mmp_place.proofs.Nodes.{all_joined, size_every_node}
 use Rattle.mmp_place.proofs.Parts.{ThreeBlock, trim-same, block_of_nodes, three_block_of_nodes}
@@ -120,6 +121,40 @@ by_closed g graph x is = three_block_of_nodes g x x graph (trim-same g x is.0) i
 block_by_closed : (g : Network) → IsGraph g → (x : ℕ → Bool) → IsSetOf g (IsLargeBlock g) x → Block g g.nodes (is_node g) x
 block_by_closed g graph x is = block_of_nodes g x x graph (trim-same g x is.0) is.1.0
 
+-- of two sets that the rule fills the free nodes are nested or disjoint
+pub free_nodes_are_nested : FreeNodesAreNested
+free_nodes_are_nested g x y graph (below_x, kind_x) (below_y, kind_y) = elim kind_x [
+  | inl three_x ↦ elim kind_y [
+    | inl three_y ↦ ahead (nested_three_blocks g x y graph (by_closed g graph x (in_x, three_x)) (by_closed g graph y (in_y, three_y)))
+    | inr other_y ↦ elim other_y [
+      | inl block_y ↦ ahead (nested_in_block g x y graph (by_closed g graph x (in_x, three_x)) (block_by_closed g graph y (in_y, block_y)))
+      | inr all_y ↦ ahead (nested_in_larger g x y graph in_x (λ v m. all_y v (below_x v m)))
+    ]
+  ]
+  | inr other_x ↦ elim other_x [
+    | inl block_x ↦ elim kind_y [
+      | inl three_y ↦ behind (nested_in_block g y x graph (by_closed g graph y (in_y, three_y)) (block_by_closed g graph x (in_x, block_x)))
+      | inr other_y ↦ elim other_y [
+        | inl block_y ↦ ahead (nested_blocks g x y graph (block_by_closed g graph x (in_x, block_x)) (block_by_closed g graph y (in_y, block_y)))
+        | inr all_y ↦ ahead (nested_in_larger g x y graph in_x (λ v m. all_y v (below_x v m)))
+      ]
+    ]
+    | inr all_x ↦ behind (nested_in_larger g y x graph in_y (λ v m. all_x v (below_y v m)))
+  ]
+]
+  where
+    in_x : Within x (is_node g)
+    in_x v m = is_node-from g v (below_x v m)
+
+    in_y : Within y (is_node g)
+    in_y v m = is_node-from g v (below_y v m)
+
+    ahead : IsNestedIn g x y → (Within (free g x) (free g y) ⊎ Within (free g y) (free g x)) ⊎ Apart (free g x) (free g y)
+    ahead h = elim h [ inl inside ↦ inl (inl inside) | inr apart ↦ inr apart ]
+
+    behind : IsNestedIn g y x → (Within (free g x) (free g y) ⊎ Within (free g y) (free g x)) ⊎ Apart (free g x) (free g y)
+    behind h = elim h [ inl inside ↦ inl (inr inside) | inr apart ↦ inr (λ v mx my. apart v my mx) ]
+
 module _ (g : Network) (graph : IsGraph g) (connected : IsConnected g) (three : 3 ≤ g.nodes)
     (threes blocks : List (List ℕ)) (all_threes : AreSetsWith g.nodes (IsThreeBlock g) threes) (all_blocks : AreSetsWith g.nodes (IsLargeBlock g) blocks) where
   -- the sets that are filled
@@ -177,7 +212,7 @@ module _ (g : Network) (graph : IsGraph g) (connected : IsConnected g) (three : 
           | inl i ↦ passes.three_blocks x (three_of x i).1 short
           | inr i ↦ passes.blocks x (block_of x i).1 short
         ]
-        | inr same ↦ passes.all_nodes (subst (λ z. IsShort g s z) same short)
+        | inr same ↦ passes.all_nodes (subst (λ z. IsShortSet g s z) same short)
       ]) in
       let least = run.least s passes.narrow_nodes meets everything (λ x done. inl (λ v m. refl)) h in
       omega (arith, least, whole (placed_by g threes blocks), whole s)

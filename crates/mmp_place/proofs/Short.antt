@@ -11,7 +11,7 @@ use Rattle.tomo_base.specs.Parting.{IsClosedIn, without_two}
 use Rattle.tomo_base.proofs.Parting.{without_two-from, without_two-in, without_two-ne, minus-in, minus-out}
 use Rattle.tomo_base.proofs.Picks.{count-split, two-at-most}
 use Rattle.tomo_base.proofs.Reaching.{is_node, is_node_below, is_node-from}
-use Rattle.mmp_place.specs.Rule.{narrow, counting, IsShort}
+use Rattle.mmp_place.specs.Rule.{narrow, counting, IsShortSet}
 use Rattle.mmp_place.proofs.Nodes.{two_cover}
 
 -- v has a neighbour outside x
@@ -71,11 +71,11 @@ pub counting_parts : (g : Network) (x m : ℕ → Bool) → size g (counting g x
 counting_parts g x m = count-add g.nodes (counting g x m) (edge g x) (meet m (free g x)) (λ v l. count_one (x v) (m v) (leaves g x v))
 
 -- a set that has as many monitors as it asks for is not short
-pub asked_not_short : (g : Network) (x m : ℕ → Bool) → ask g x ≤ size g (meet m (free g x)) → IsShort g m x → ⊥
+pub asked_not_short : (g : Network) (x m : ℕ → Bool) → ask g x ≤ size g (meet m (free g x)) → IsShortSet g m x → ⊥
 asked_not_short g x m enough short = omega (arith, enough, short, counting_parts g x m)
 
 -- a set that is not short has as many
-pub not_short_asked : (g : Network) (x m : ℕ → Bool) → (IsShort g m x → ⊥) → ask g x ≤ size g (meet m (free g x))
+pub not_short_asked : (g : Network) (x m : ℕ → Bool) → (IsShortSet g m x → ⊥) → ask g x ≤ size g (meet m (free g x))
 not_short_asked g x m not_short = elim (cases_lt (size g (meet m (free g x))) (ask g x)) [
   | inl few ↦ absurd (not_short (omega (arith, few, counting_parts g x m)))
   | inr enough ↦ enough
@@ -86,7 +86,7 @@ pub ask_fits : (g : Network) (x : ℕ → Bool) → 3 ≤ size g x → ask g x �
 ask_fits g x three = omega (arith, three, count-split g.nodes x (leaves g x))
 
 -- sets with the same nodes are short alike
-pub short-same : (g : Network) (x y m : ℕ → Bool) → IsInside g x y → IsInside g y x → IsShort g m x → IsShort g m y
+pub short-same : (g : Network) (x y m : ℕ → Bool) → IsInside g x y → IsInside g y x → IsShortSet g m x → IsShortSet g m y
 short-same g x y m xy yx short = omega (
   arith,
   short,
@@ -164,7 +164,7 @@ bad_gates g m q graph bad =
     }
 
 -- the free nodes of a short set that are no monitors are a bad part
-pub short_bad : (g : Network) (m x : ℕ → Bool) → IsGraph g → 3 ≤ size g x → IsShort g m x → IsBadPart g m (minus (free g x) m)
+pub short_bad : (g : Network) (m x : ℕ → Bool) → IsGraph g → 3 ≤ size g x → IsShortSet g m x → IsBadPart g m (minus (free g x) m)
 short_bad g m x graph three short =
     let q : ℕ → Bool = minus (free g x) m in
     let out : (v : ℕ) → IsTrue (q v) → IsTrue (x v) × (leaves g x v ≡ false) × (m v ≡ false) = λ v h.

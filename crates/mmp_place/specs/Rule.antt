@@ -1,5 +1,5 @@
 -- The placement rule: begin with the nodes of degree below three, then fill every three-block, every block of at least three nodes, and the set of all nodes.
-use Rattle.std.specs.Prelude.{ℕ, ◌≡◌, ◌-◌, ◌<◌, ◌≤◌, Bool, ◌&&◌, ◌||◌, nat_lt, IsTrue, List, [], ◌∷◌}
+use Rattle.std.specs.Prelude.{ℕ, ◌≡◌, ◌-◌, ◌<◌, ◌≤◌, ◌⊎◌, Bool, ◌&&◌, ◌||◌, nat_lt, IsTrue, List, [], ◌∷◌}
 use Rattle.tomo_base.specs.Network.{Network}
 use Rattle.tomo_base.specs.Sets.{has, count, size, degree, touches, minus, complement}
 use Rattle.tomo_base.specs.Blocks.{IsBlock, IsThreeBlock}
@@ -50,13 +50,21 @@ pub record IsPlacedByRule (g : Network) (m : ℕ → Bool) : Type 0 where
   pub all_blocks : AreSetsWith g.nodes (IsLargeBlock g) blocks
   pub placed : (v : ℕ) → v < g.nodes → m v ≡ placed_by g three_blocks blocks v
 
+-- a set of nodes that the rule fills: a three-block, a block of at least three nodes, or all nodes
+abbrev pub IsRuleSet : Network → (ℕ → Bool) → Type 0
+IsRuleSet g x = ((v : ℕ) → IsTrue (x v) → v < g.nodes) × (IsThreeBlock g x ⊎ (IsLargeBlock g x ⊎ ((v : ℕ) → v < g.nodes → IsTrue (x v))))
+
+-- the nodes of x with all neighbours in x
+abbrev pub free_nodes : Network → (ℕ → Bool) → ℕ → Bool
+free_nodes g x v = minus x (touches g (complement x)) v
+
 -- fewer than three nodes of x count
-abbrev pub IsShort : Network → (ℕ → Bool) → (ℕ → Bool) → Type 0
-IsShort g m x = size g (counting g x m) < 3
+abbrev pub IsShortSet : Network → (ℕ → Bool) → (ℕ → Bool) → Type 0
+IsShortSet g m x = size g (counting g x m) < 3
 
 -- m passes the tests of the rule: it holds each node of degree below three, and no three-block, no block of at least three nodes and not the set of all nodes is short
 pub record PassesRule (g : Network) (m : ℕ → Bool) : Type 0 where
   pub narrow_nodes : (v : ℕ) → v < g.nodes → IsTrue (narrow g v) → IsTrue (m v)
-  pub three_blocks : (t : ℕ → Bool) → IsThreeBlock g t → IsShort g m t → ⊥
-  pub blocks : (b : ℕ → Bool) → IsLargeBlock g b → IsShort g m b → ⊥
-  pub all_nodes : IsShort g m (every_node g) → ⊥
+  pub three_blocks : (t : ℕ → Bool) → IsThreeBlock g t → IsShortSet g m t → ⊥
+  pub blocks : (b : ℕ → Bool) → IsLargeBlock g b → IsShortSet g m b → ⊥
+  pub all_nodes : IsShortSet g m (every_node g) → ⊥

@@ -4,7 +4,5 @@
 mod filling;
 pub mod laws;
 mod rule;
-#[cfg(test)]
-mod tests;
 
 pub use rule::mmp;

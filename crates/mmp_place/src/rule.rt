@@ -16,13 +16,19 @@ use split_tree::{split, three_blocks};
 use std::alloc::Global;
 use tomo_base::{Graph, NoMemory, NodeSet, NodeSets};
 
+// A node of fewer neighbours has to be a monitor.
+const WIDE: usize = 3;
+
+// Blocks of no more nodes are not filled.
+const SMALL: u32 = 2;
+
 // The nodes of degree below three.
 fn narrow_nodes(alloc: Global, g: &Graph) -> Result<NodeSet, NoMemory>
     ensures { IfOk result (λ found. (v : ℕ) → has found v ≡ narrow g.now v) }
 {
     let mut found = NodeSet::new(alloc);
     for v in 0..g.nodes() {
-        if g.hops(v).len() < 3 {
+        if g.hops(v).len() < WIDE {
             found.insert(v)?;
         }
     }
@@ -65,7 +71,7 @@ fn fill_three_blocks(
 {
     for i in 0..blocks.len() {
         let block = blocks.at(i);
-        if block.len() > 2 {
+        if block.len() > SMALL {
             let three_blocks = three_blocks_in(alloc, g, block)?;
             fill_each(g, &three_blocks, m)?;
         }
@@ -80,7 +86,7 @@ fn fill_large(g: &Graph, sets: &NodeSets, m: &mut NodeSet) -> Result<(), NoMemor
 {
     for i in 0..sets.len() {
         let set = sets.at(i);
-        if set.len() > 2 {
+        if set.len() > SMALL {
             fill(g, set, m)?;
         }
     }
@@ -89,7 +95,8 @@ fn fill_large(g: &Graph, sets: &NodeSets, m: &mut NodeSet) -> Result<(), NoMemor
 
 /// What the placement rule places: the nodes of degree below three, and then in each three-block, each block of at least three nodes
 /// and the set of all nodes the least nodes that do not count, until three count; a node counts if it is placed, or has a neighbour
-/// outside the set. That is the lowest set. Beside the search for blocks and three-blocks the time is nearly linear in nodes and links.
+/// outside the set. That is the lowest set. Beside the search for blocks and three-blocks the time is nearly linear in nodes and links. After
+/// the placement MMP of Ma, He, Leung, Swami and Towsley (2013, 2014), with counts and ties of its own.
 pub fn mmp(alloc: Global, g: &Graph) -> Result<NodeSet, NoMemory>
     requires connected { IsConnected g.now }
     requires three { 3 ≤ g.now.nodes }

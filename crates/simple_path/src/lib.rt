@@ -6,8 +6,6 @@ mod path_pool;
 mod recipe;
 mod span;
 mod sums;
-#[cfg(test)]
-mod tests;
 
 pub use monitor_path::{ends_in, is_monitor_path, is_walk};
 pub use path_pool::PathPool;

@@ -38,7 +38,8 @@ impl PathPool {
         }
     }
 
-    /// Adds a path at the end, and answers its number. Earlier paths stay as they were.
+    /// Adds a path at the end, and answers its number. Earlier paths stay as they were. The path is copied; space grows by doubling, so the time
+    /// is on average that of the path's nodes.
     pub fn add(&mut self, path: &[u32]) -> Result<u32, NoMemory>
         requires paths { length self.old + 1 < 2 ^ 31 }
         requires nodes { nodes_in self.old + length path.now < 2 ^ 31 }
@@ -57,7 +58,7 @@ impl PathPool {
         Ok(number)
     }
 
-    /// How many paths there are.
+    /// How many paths there are. It takes no memory.
     pub fn len(&self) -> u32
         ensures len { result ≡ length self.now }
         ensures few { result < 2 ^ 31 }
@@ -66,7 +67,7 @@ impl PathPool {
         self.spans.len() as u32
     }
 
-    /// The path with a number.
+    /// The path with a number. It takes no memory.
     pub fn path(&self, i: u32) -> &[u32]
         requires { i < length self.now }
         ensures { result.now ≡ slice_index_or self.now i [] }

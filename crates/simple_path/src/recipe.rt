@@ -49,7 +49,7 @@ impl Recipe {
         Ok(())
     }
 
-    /// The terms, in the order in which they were added.
+    /// The terms, in the order in which they were added. It takes no memory.
     pub fn terms(&self) -> &[Term]
         ensures terms { result.now ≡ self.now }
         ensures few { length result.now < 2 ^ 32 }
@@ -98,14 +98,14 @@ impl Recipes {
         }
     }
 
-    /// How many recipes there are.
+    /// How many recipes there are. It takes no memory.
     pub fn len(&self) -> u32
         ensures { result ≡ length self.now }
     {
         self.recipes.len() as u32
     }
 
-    /// The recipe with a number.
+    /// The recipe with a number. It takes no memory.
     pub fn at(&self, i: u32) -> &Recipe
         requires { i < length self.now }
         ensures { result.now ≡ slice_index_or self.now i [] }

@@ -1,16 +1,14 @@
 -- A split tree has no more rigid pieces than nodes.
-use Rattle.std.proofs.Common.{◌≡◌, ◌≢◌, ℕ, ◌+◌, ◌<◌, ◌≤◌, ◌⊎◌, Bool, true, false, ◌&&◌, ◌||◌, ◌==◌, List, [], ◌∷◌, ◌++◌, length, IsTrue, refl, sym, ap, ◌∙◌, subst, inl, inr, arith, append_assoc, length-append}
-use Rattle.std.proofs.lemmas.Bool.{cases_Bool, both_ways, or_cases, eqb-true}
+use Rattle.std.proofs.Common.{◌≡◌, ℕ, ◌+◌, ◌≤◌, Bool, true, false, ◌||◌, ◌==◌, List, [], ◌∷◌, ◌++◌, length, refl, sym, ap, ◌∙◌, subst, inl, inr, arith, append_assoc, length-append}
+use Rattle.std.proofs.lemmas.Bool.{or_cases, eqb-true}
 use Rattle.std.proofs.lemmas.List.{append-nil}
-use Rattle.std.proofs.Math.Logic.{∥∥₁_elim}
-use Rattle.std.proofs.Props.{props}
 use Rattle.tomo_base.specs.declared.graph.Link.{Link}
-use Rattle.tomo_base.specs.Sets.{has, count, one_if, size}
+use Rattle.tomo_base.specs.Sets.{has, count, one_if}
 use Rattle.tomo_base.proofs.Counts.{count_pairs}
 use Rattle.tomo_base.proofs.Picks.{two-at-most}
 use Rattle.split_tree.specs.declared.piece.Piece.{Piece}
 use Rattle.split_tree.specs.declared.tree.Tree.{Tree, Small, Rigid, Split', Row_of-Tree-Split-2-1, end_of-Tree-Split-2-1, more_of-Tree-Split-2-1, Row_of-Tree, end_of-Tree, more_of-Tree}
-use Rattle.split_tree.specs.Pieces.{net, IsPiece, IsCutInto}
+use Rattle.split_tree.specs.Pieces.{IsPiece, IsCutInto}
 use Rattle.split_tree.specs.Trees.{piece_of, box_pieces, row_pieces, IsSplit, Facts, BoxFacts, RowFacts, rigids_of, box_rigids, row_rigids}
 use Rattle.split_tree.proofs.Halving.{size_of}
 use Rattle.split_tree.proofs.Sounding.{piece_is}

@@ -1,36 +1,33 @@
 -- Two nodes that part a piece that no single node cuts, and the two parts that marks make of it.
-use Rattle.std.proofs.Common.{◌≡◌, ◌≢◌, ℕ, zero, suc, ◌+◌, ◌<◌, ◌≤◌, ◌⊎◌, min, max, Bool, true, false, not, ◌&&◌, ◌||◌, ◌==◌, List, [], ◌∷◌, length, get_or, IsTrue, refl, sym, ap, ap₂, ◌∙◌, subst, inl, inr, arith}
+use Rattle.std.proofs.Common.{◌≡◌, ◌≢◌, ℕ, zero, suc, ◌<◌, ◌≤◌, ◌⊎◌, min, max, Bool, true, false, not, ◌&&◌, ◌||◌, ◌==◌, List, [], ◌∷◌, length, get_or, IsTrue, refl, sym, ap, ap₂, ◌∙◌, subst, inl, inr, arith}
 use Rattle.std.specs.List.{filter}
 use Rattle.std.proofs.lemmas.Bool.{cases_eq, cases_lt, cases_Bool, both_ways, and_parts, and_from, and_left, and_right, or_cases, or_left, or_right, or_from, eqb-true, eq-eqb, false_from_ne_true}
 use Rattle.tomo_base.specs.declared.graph.Link.{Link}
-use Rattle.tomo_base.specs.Network.{Network, joins, any_joins, linked, AreLinks}
-use Rattle.tomo_base.specs.Sets.{has, size, count, minus, Within}
+use Rattle.tomo_base.specs.Network.{joins, any_joins}
+use Rattle.tomo_base.specs.Sets.{has, minus}
 use Rattle.tomo_base.specs.Search.{mark_of}
-use Rattle.tomo_base.specs.SetLists.{IsSetBelow}
 use Rattle.tomo_base.specs.Blocks.{IsNonseparable}
 use Rattle.tomo_base.proofs.Counts.{count-same}
 use Rattle.tomo_base.proofs.Links.{linked_comm, joins_gives}
 use Rattle.tomo_base.proofs.Ascending.{place_in}
 use Rattle.tomo_base.proofs.Walks.{connected_inside}
-use Rattle.tomo_base.specs.Parting.{without_two, IsClosedIn, IsJoinedIn, IsJoinedWithoutOne}
-use Rattle.tomo_base.proofs.Parting.{without_two-from, without_two-in, without_two-ne, without-from, without-parts, minus-in, minus-out, flip, joined-same}
+use Rattle.tomo_base.specs.Parting.{without_two, IsJoinedWithoutOne}
+use Rattle.tomo_base.proofs.Parting.{without_two-from, without_two-in, without_two-ne, without-from, without-parts, minus-in, minus-out, joined-same}
 use Rattle.tomo_base.proofs.Reaching.{is_node, nodes_in, is_node-from}
 use Rattle.tomo_base.proofs.Picks.{three-count}
 use Rattle.tomo_base.specs.Parting.{IsThreeConnectedIn}
-use Rattle.three_conn.specs.Parting.{IsParted}
-use Rattle.three_conn.specs.Held.{IsParting}
+use Rattle.three_conn.specs.Parting.{IsParted, IsParting}
 use Rattle.three_conn.specs.declared.known.Parting.{Parting}
 use Rattle.blocks.proofs.Filtering.{has-filter, IsSetBelow-filter}
 use Rattle.blocks.proofs.Working.{like-from, like-to}
 use Rattle.split_tree.specs.declared.piece.Piece.{Piece}
-use Rattle.split_tree.specs.declared.cutting.Halves.{Halves}
-use Rattle.split_tree.specs.Pieces.{net, IsPiece, IsPart, IsCutInto}
+use Rattle.split_tree.specs.Pieces.{net, IsPiece, IsPartAt}
 use Rattle.split_tree.specs.Parts.{is_inside, IsMarkedPart}
 use Rattle.split_tree.specs.Stages.{IsStage, IsHalved, IsPairCut}
 use Rattle.split_tree.proofs.Halving.{size_of, half_of}
 use Rattle.split_tree.proofs.Pass.{part-like, cut-is-pair}
 use Rattle.split_tree.proofs.Sounding.{piece_below}
-use Rattle.split_tree.proofs.MarkedLinks.{any_filter, filter_le, filter_less}
+use Rattle.split_tree.proofs.MarkedLinks.{any_filter, filter_less}
 
 -- a piece that no single node cuts, by closed sets
 pub firm_of : (n : ℕ) (p : Piece) → IsPiece n p → IsNonseparable (net n p) (has p.nodes) → IsJoinedWithoutOne (net n p) (has p.nodes)
@@ -55,13 +52,13 @@ three_connected_marks n p marks is same three = record {
 }
 
 -- two nodes that part it
-pub pair_cut_of : (n : ℕ) (p : Piece) (marks : List Bool) (root : ℕ) (held : ℕ → Bool) (cut : Parting) → IsStage n p → ((v : ℕ) → mark_of marks v ≡ has p.nodes v)
-    → IsParting (net n p) (mark_of marks) root held cut → IsPairCut n p cut
-pair_cut_of n p marks root held cut stage same parting =
+pub pair_cut_of : (n : ℕ) (p : Piece) (marks : List Bool) (cut : Parting) → IsStage n p → ((v : ℕ) → mark_of marks v ≡ has p.nodes v)
+    → IsParting (net n p) (mark_of marks) cut → IsPairCut n p cut
+pair_cut_of n p marks cut stage same parting =
     let P : ℕ → Bool = has p.nodes in
     let K : ℕ → Bool = has cut.side.items in
-    let c = cut.c in
-    let d = cut.d in
+    let c = cut.first in
+    let d = cut.second in
     let old = parting.parted in
     let to : (v : ℕ) → IsTrue (without_two (mark_of marks) c d v) → IsTrue (without_two P c d v) = λ v m. let ne = without_two-ne (mark_of marks) c d v m in
     without_two-from P c d v (sym (same v) ∙ without_two-in (mark_of marks) c d v m) ne.0 ne.1 in
@@ -91,31 +88,31 @@ pub record IsSide (n : ℕ) (p : Piece) (pair : Link) (K : ℕ → Bool) : Type 
   pub some : (v : ℕ) × IsTrue (K v)
   pub rest : (v : ℕ) × IsTrue (has p.nodes v) × (v ≢ pair.a) × (v ≢ pair.b) × (K v ≡ false)
 
-pub side_of : (n : ℕ) (p : Piece) (cut : Parting) (a b : ℕ) → a ≡ min cut.c cut.d → b ≡ max cut.c cut.d → IsPairCut n p cut → IsSide n p (record { a = a; b = b }) (has cut.side.items)
-side_of n p cut a b low high pc = elim (cases_lt cut.c cut.d) [
+pub side_of : (n : ℕ) (p : Piece) (cut : Parting) (a b : ℕ) → a ≡ min cut.first cut.second → b ≡ max cut.first cut.second → IsPairCut n p cut → IsSide n p (record { a = a; b = b }) (has cut.side.items)
+side_of n p cut a b low high pc = elim (cases_lt cut.first cut.second) [
   | inl lt ↦ (
-      let e : a ≡ cut.c = omega (arith, low, lt) in
-      let f : b ≡ cut.d = omega (arith, high, lt) in
+      let e : a ≡ cut.first = omega (arith, low, lt) in
+      let f : b ≡ cut.second = omega (arith, high, lt) in
       rw (e, f) (record {
         ordered = lt;
         first = pc.first;
         second = pc.second;
-        inside = λ v m. let i = pc.parted.inside v m in let ne = without_two-ne P cut.c cut.d v i in (without_two-in P cut.c cut.d v i, ne.0, ne.1);
-        shut = λ u v m l pv vc vd. pc.parted.shut u v m l (without_two-from P cut.c cut.d v pv vc vd);
+        inside = λ v m. let i = pc.parted.inside v m in let ne = without_two-ne P cut.first cut.second v i in (without_two-in P cut.first cut.second v i, ne.0, ne.1);
+        shut = λ u v m l pv vc vd. pc.parted.shut u v m l (without_two-from P cut.first cut.second v pv vc vd);
         some = (pc.parted.some.0, pc.parted.some.2);
-        rest = (let i = pc.parted.rest.2 in let ne = without_two-ne P cut.c cut.d pc.parted.rest.0 i in (pc.parted.rest.0, without_two-in P cut.c cut.d pc.parted.rest.0 i, ne.0, ne.1, pc.parted.rest.3));
+        rest = (let i = pc.parted.rest.2 in let ne = without_two-ne P cut.first cut.second pc.parted.rest.0 i in (pc.parted.rest.0, without_two-in P cut.first cut.second pc.parted.rest.0 i, ne.0, ne.1, pc.parted.rest.3));
       }))
   | inr ge ↦ (
-      let e : a ≡ cut.d = omega (arith, low, ge) in
-      let f : b ≡ cut.c = omega (arith, high, ge) in
+      let e : a ≡ cut.second = omega (arith, low, ge) in
+      let f : b ≡ cut.first = omega (arith, high, ge) in
       rw (e, f) (record {
         ordered = omega (arith, ge, pc.differ);
         first = pc.second;
         second = pc.first;
-        inside = λ v m. let i = pc.parted.inside v m in let ne = without_two-ne P cut.c cut.d v i in (without_two-in P cut.c cut.d v i, ne.1, ne.0);
-        shut = λ u v m l pv vd vc. pc.parted.shut u v m l (without_two-from P cut.c cut.d v pv vc vd);
+        inside = λ v m. let i = pc.parted.inside v m in let ne = without_two-ne P cut.first cut.second v i in (without_two-in P cut.first cut.second v i, ne.1, ne.0);
+        shut = λ u v m l pv vd vc. pc.parted.shut u v m l (without_two-from P cut.first cut.second v pv vc vd);
         some = (pc.parted.some.0, pc.parted.some.2);
-        rest = (let i = pc.parted.rest.2 in let ne = without_two-ne P cut.c cut.d pc.parted.rest.0 i in (pc.parted.rest.0, without_two-in P cut.c cut.d pc.parted.rest.0 i, ne.1, ne.0, pc.parted.rest.3));
+        rest = (let i = pc.parted.rest.2 in let ne = without_two-ne P cut.first cut.second pc.parted.rest.0 i in (pc.parted.rest.0, without_two-in P cut.first cut.second pc.parted.rest.0 i, ne.1, ne.0, pc.parted.rest.3));
       }))
 ]
   where
@@ -186,7 +183,7 @@ module _ (n : ℕ) (p : Piece) (pair : Link) (marks : List Bool) (part : Piece) 
 
   -- a part at the pair, where no link leads out but at the two, and it has a further node
   pub is_part : pair.a ≢ pair.b → (k : ℕ) → IsTrue (has part.nodes k) → k ≢ pair.a → k ≢ pair.b
-      → ((u v : ℕ) → IsTrue (has part.nodes u) → u ≢ pair.a → u ≢ pair.b → IsTrue (any_joins p.links u v) → IsTrue (has part.nodes v)) → IsPart p pair part
+      → ((u v : ℕ) → IsTrue (has part.nodes u) → u ≢ pair.a → u ≢ pair.b → IsTrue (any_joins p.links u v) → IsTrue (has part.nodes v)) → IsPartAt p pair part
   is_part ab k kin ka kb shut =
       let low : (v : ℕ) → IsTrue (has part.nodes v) → v < n = λ v h. piece_below n p is v (part_out v h).0 in
       let a_in = part_in pair.a pa ma in
@@ -201,7 +198,7 @@ module _ (n : ℕ) (p : Piece) (pair : Link) (marks : List Bool) (part : Piece) 
       }
 
   -- a part that lacks a node is to be cut in its turn
-  pub stage_of : IsStage n p → IsPart p pair part → (y : ℕ) → IsTrue (has p.nodes y) → mark_of marks y ≡ false → y ≢ pair.a → IsStage n part × (length part.nodes < length p.nodes)
+  pub stage_of : IsStage n p → IsPartAt p pair part → (y : ℕ) → IsTrue (has p.nodes y) → mark_of marks y ≡ false → y ≢ pair.a → IsStage n part × (length part.nodes < length p.nodes)
   stage_of stage at y py my ya =
       let firm = firm_of n p stage.is stage.nonseparable in
       let out : has part.nodes y ≡ false = in_part y ∙ and_right (has p.nodes y) (mark_of marks y) my in
@@ -251,7 +248,7 @@ halved n p pair side near far left right stage s nears fars lm rm =
     let left_k : (v : ℕ) → IsTrue (has left.nodes v) → IsTrue (K v) ⊎ IsTrue ((v == a) || (v == b)) = λ v h. or_cases (K v) ((v == a) || (v == b)) (sym (nears v) ∙ (l_out v h).1) in
     let to_right : (v : ℕ) → IsTrue (P v) → K v ≡ false → IsTrue (has right.nodes v) = λ v pv out. r_in v pv (fars v ∙ minus-in P K v pv out) in
     let right_off : (v : ℕ) → IsTrue (has right.nodes v) → K v ≡ false = λ v h. (minus-out P K v (sym (fars v) ∙ (r_out v h).1)).1 in
-    let l_at : IsPart p pair left = is_part n p pair near left is lm s.first s.second na nb ab s.some.0 (k_left s.some.0 s.some.1) (s.inside s.some.0 s.some.1).1 (s.inside s.some.0 s.some.1).2
+    let l_at : IsPartAt p pair left = is_part n p pair near left is lm s.first s.second na nb ab s.some.0 (k_left s.some.0 s.some.1) (s.inside s.some.0 s.some.1).1 (s.inside s.some.0 s.some.1).2
     (λ u v lu ua ub link.
     let ku : IsTrue (K u) = elim (left_k u lu) [ inl m ↦ m | inr e ↦ elim (or_cases (u == a) (u == b) e) [ inl i ↦ absurd (ua (eqb-true u a i)) | inr i ↦ absurd (ub (eqb-true u b i)) ] ] in
     let pv = (and_parts (P u) (P v) (is.ends u v link)).1 in
@@ -262,7 +259,7 @@ halved n p pair side near far left right stage s nears fars lm rm =
         | inr vb ↦ k_left v (s.shut u v ku link pv va vb)
       ]
     ]) in
-    let r_at : IsPart p pair right = is_part n p pair far right is rm s.first s.second fa fb ab s.rest.0 (to_right s.rest.0 s.rest.1 s.rest.4) s.rest.2 s.rest.3
+    let r_at : IsPartAt p pair right = is_part n p pair far right is rm s.first s.second fa fb ab s.rest.0 (to_right s.rest.0 s.rest.1 s.rest.4) s.rest.2 s.rest.3
     (λ u v ru ua ub link.
     let pv = (and_parts (P u) (P v) (is.ends u v link)).1 in
     to_right v pv (false_from_ne_true (K v) (λ m. both_ways (K u) (right_off u ru) (s.shut v u m (linked_comm (net n p) u v link) (r_out u ru).0 ua ub)))) in

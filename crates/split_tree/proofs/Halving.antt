@@ -1,20 +1,18 @@
 -- A piece that two nodes cut into two parts, by closed sets.
-use Rattle.std.proofs.Common.{◌≡◌, ◌≢◌, ℕ, ◌+◌, ◌<◌, ◌≤◌, ◌⊎◌, Bool, true, false, not, ◌&&◌, ◌||◌, ◌==◌, List, length, IsTrue, refl, sym, ap, ◌∙◌, subst, inl, inr, arith}
-use Rattle.std.proofs.lemmas.Bool.{cases_eq, cases_Bool, both_ways, and_parts, and_from, or_cases, or_left, or_right, eqb-true, false_from_ne_true}
-use Rattle.std.proofs.lemmas.Bool.Decides.{nat_tests}
+use Rattle.std.proofs.Common.{◌≡◌, ℕ, ◌⊎◌, Bool, true, false, ◌&&◌, ◌||◌, ◌==◌, List, length, IsTrue, refl, sym, ◌∙◌, inl, inr, arith}
+use Rattle.std.proofs.lemmas.Bool.{cases_eq, both_ways, and_parts, and_from, or_cases, or_left, or_right, eqb-true, false_from_ne_true}
 use Rattle.tomo_base.specs.declared.graph.Link.{Link}
-use Rattle.tomo_base.specs.Network.{Network, joins, any_joins, linked}
-use Rattle.tomo_base.specs.Sets.{has, count, without, Within}
+use Rattle.tomo_base.specs.Network.{joins, any_joins, linked}
+use Rattle.tomo_base.specs.Sets.{has, count}
 use Rattle.tomo_base.specs.SetLists.{IsSetBelow}
 use Rattle.tomo_base.proofs.Entering.{joins_its_ends}
-use Rattle.tomo_base.proofs.Links.{linked_comm, joins_gives}
+use Rattle.tomo_base.proofs.Links.{joins_gives}
 use Rattle.tomo_base.proofs.Members.{count-has}
-use Rattle.tomo_base.proofs.Ascending.{All-has}
-use Rattle.tomo_base.specs.Parting.{without_two, IsClosedIn}
+use Rattle.tomo_base.specs.Parting.{without_two}
 use Rattle.tomo_base.proofs.Parting.{without_two-from, without_two-in, without_two-ne}
 use Rattle.tomo_base.proofs.Picks.{pick2}
 use Rattle.split_tree.specs.declared.piece.Piece.{Piece}
-use Rattle.split_tree.specs.Pieces.{net, IsPiece, IsPart, IsCutInto}
+use Rattle.split_tree.specs.Pieces.{net, IsPiece, IsPartAt}
 use Rattle.split_tree.proofs.Rigid.{Ends}
 use Rattle.split_tree.proofs.Sound.{Half}
 
@@ -27,7 +25,7 @@ abbrev pub inner : Piece → Link → ℕ → Bool
 inner part pair = without_two (has part.nodes) pair.a pair.b
 
 -- two parts that share the pair alone: the other has a node that the one has not
-pub outer : (n : ℕ) (whole one other : Piece) (pair : Link) → IsPiece n other → IsPart whole pair other
+pub outer : (n : ℕ) (whole one other : Piece) (pair : Link) → IsPiece n other → IsPartAt whole pair other
     → ((v : ℕ) → IsTrue (has one.nodes v) → IsTrue (has other.nodes v) → IsTrue ((v == pair.a) || (v == pair.b)))
     → (v : ℕ) × IsTrue (has whole.nodes v) × (has one.nodes v ≡ false)
 outer n whole one other pair is part shared =
@@ -41,7 +39,7 @@ outer n whole one other pair is part shared =
     )
 
 -- a part, by closed sets
-pub half_of : (n : ℕ) (whole part : Piece) (pair : Link) → IsPiece n whole → IsPiece n part → IsPart whole pair part
+pub half_of : (n : ℕ) (whole part : Piece) (pair : Link) → IsPiece n whole → IsPiece n part → IsPartAt whole pair part
     → (out : ℕ) → IsTrue (has whole.nodes out) → has part.nodes out ≡ false
     → Half (net n whole) (has whole.nodes) (inner part pair) pair.a pair.b (net n part) (has part.nodes)
 half_of n whole part pair is is' at out out_in out_off =

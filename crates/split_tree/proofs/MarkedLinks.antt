@@ -1,14 +1,13 @@
 -- The links between marked nodes, and a link more.
-use Rattle.std.proofs.Common.{◌≡◌, ◌≢◌, ℕ, zero, suc, ◌+◌, ◌<◌, ◌≤◌, ◌⊎◌, Bool, true, false, not, ◌&&◌, ◌||◌, ◌==◌, cond, List, [], ◌∷◌, ◌++◌, length, get_or, All, IsTrue, refl, sym, ap, ap₂, ◌∙◌, subst, inl, inr, arith}
+use Rattle.std.proofs.Common.{◌≡◌, ℕ, zero, suc, ◌<◌, ◌≤◌, Bool, true, false, ◌&&◌, ◌||◌, ◌==◌, List, [], ◌∷◌, ◌++◌, length, get_or, All, refl, sym, ap, ap₂, ◌∙◌, subst, inl, inr, arith}
 use Rattle.std.specs.List.{filter, list_any}
-use Rattle.std.proofs.lemmas.Bool.{cases_eq, cases_lt, cases_Bool, both_ways, and_parts, and_from, or_cases, or_left, or_right, or_parts, eqb-true, eq-eqb, false_from_ne_true, true≢false}
+use Rattle.std.proofs.lemmas.Bool.{cases_Bool}
 use Rattle.std.proofs.lemmas.Bool.Decides.{nat_tests}
 use Rattle.std.proofs.lemmas.List.{length_push}
 use Rattle.tomo_base.specs.declared.graph.Link.{Link}
-use Rattle.tomo_base.specs.Network.{Network, joins, any_joins, linked, AreLinks}
-use Rattle.tomo_base.specs.Sets.{has}
+use Rattle.tomo_base.specs.Network.{joins, any_joins, AreLinks}
 use Rattle.tomo_base.specs.Search.{mark_of}
-use Rattle.tomo_base.proofs.Links.{joins_gives, joins_comm, any_joins_comm}
+use Rattle.tomo_base.proofs.Links.{joins_gives, any_joins_comm}
 use Rattle.tomo_base.proofs.Rows.{any_joins-push, AreLinks-push}
 use Rattle.split_tree.specs.declared.piece.Piece.{Piece}
 use Rattle.split_tree.specs.Parts.{is_inside, IsMarkedPart}

@@ -1,14 +1,10 @@
 -- Two different nodes of a set that no single node cuts are all that has to be tried to part it.
-use Rattle.std.proofs.Common.{◌≡◌, ◌≢◌, ℕ, zero, suc, ◌+◌, ◌*◌, ◌-◌, ◌≤◌, ◌<◌, Bool, true, false, cond, not, ◌&&◌, ◌||◌, ◌==◌, ◌⊎◌, List, [], ◌∷◌, ◌++◌, IsTrue, refl, sym, ap, subst, ◌∙◌, inl, inr, arith}
-use Rattle.std.proofs.lemmas.Bool.{cases_Bool, both_ways, and_parts, and_from, and_left, and_right, not-true, eqb-true, eq-eqb, ne_eqb, or_cases, or_left, or_right, cases_eq, cases_lt}
-use Rattle.tomo_base.specs.Network.{Network, linked}
-use Rattle.tomo_base.specs.Sets.{count, without, minus, meet, Within}
-use Rattle.tomo_base.proofs.Links.{linked_comm}
-use Rattle.tomo_base.proofs.Counts.{find, count-none}
-use Rattle.tomo_base.specs.Parting.{with_one, without_two, IsClosedIn, AreJoinedIn, IsJoinedIn, IsJoinedWithoutOne, IsJoinedWithoutTwo}
-use Rattle.tomo_base.proofs.Parting.{without-from, without-parts, without_two-mono, without_two-in, without_two-to, without_two-from, without_two-ne, minus-in, minus-out, flip, joined-trans, joined-more, closed-rest, joined-sym, joined-step, joined-at, joined-same, without-twice, without-once, joined-each}
-use Rattle.tomo_base.proofs.Reaching.{reach, joined-or, cut-or-joined}
-use Rattle.tomo_base.proofs.Picks.{count-split, count-within, count-proper, count-without, count-removed, pick1, pick2, pick3, two-count, three-count, two-at-most}
+use Rattle.std.proofs.Common.{◌≡◌, ◌≢◌, ℕ, Bool, false, ◌⊎◌, IsTrue, subst, inl, inr}
+use Rattle.std.proofs.lemmas.Bool.{cases_Bool, both_ways, cases_eq}
+use Rattle.tomo_base.specs.Network.{Network}
+use Rattle.tomo_base.specs.Sets.{without}
+use Rattle.tomo_base.specs.Parting.{without_two, AreJoinedIn, IsJoinedIn, IsJoinedWithoutOne}
+use Rattle.tomo_base.proofs.Parting.{without-from, without-parts, without_two-in, without_two-from, without_two-ne, flip, joined-more, joined-same, without-twice}
 use Rattle.blocks.proofs.Unparted.{Unparted}
 
 -- a number outside takes nothing away

@@ -1,30 +1,28 @@
 -- The rigid pieces of a split tree are exactly the three-blocks of its block.
-use Rattle.std.proofs.Common.{◌≡◌, ◌≢◌, ℕ, ◌+◌, ◌<◌, ◌≤◌, ◌⊎◌, Bool, true, false, not, ◌&&◌, ◌||◌, ◌==◌, List, [], ◌∷◌, ◌++◌, length, map, get_or, All, Contains, IsTrue, refl, sym, ap, ap₂, ◌∙◌, subst, inl, inr, arith, append_assoc}
+use Rattle.std.proofs.Common.{◌≡◌, ℕ, ◌<◌, ◌≤◌, Bool, true, not, ◌&&◌, ◌||◌, ◌==◌, List, [], ◌∷◌, ◌++◌, map, get_or, All, Contains, IsTrue, refl, sym, ap, ◌∙◌, subst, inl, inr, arith, append_assoc}
 use Rattle.std.proofs.Props.{props}
 use Rattle.std.proofs.Math.Logic.{∥∥₁_elim}
-use Rattle.std.proofs.lemmas.Bool.{cases_eq, cases_lt, cases_Bool, both_ways, and_parts, and_from, or_cases, or_left, or_right, eqb-true, eq-eqb, false_from_ne_true}
+use Rattle.std.proofs.lemmas.Bool.{cases_lt, both_ways, and_parts, and_from, or_cases, or_left, or_right, eqb-true, eq-eqb, false_from_ne_true}
 use Rattle.std.proofs.lemmas.List.{append-nil, map-append}
 use Rattle.std.proofs.lemmas.List.Elements.{All-push, All-append, All-contains, All-contains_itself}
 use Rattle.tomo_base.specs.declared.graph.Link.{Link}
-use Rattle.tomo_base.specs.Network.{Network, any_joins, linked, IsGraph}
-use Rattle.tomo_base.specs.Sets.{has, size, count, members, minus, Within}
-use Rattle.tomo_base.specs.Walks.{IsConnectedIn}
-use Rattle.tomo_base.specs.Blocks.{IsNonseparable, IsUnparted, ArePartedBy, IsThreeBlockOf}
+use Rattle.tomo_base.specs.Network.{Network, linked, IsGraph}
+use Rattle.tomo_base.specs.Sets.{has, size, members, minus, Within}
+use Rattle.tomo_base.specs.Blocks.{IsUnparted, IsThreeBlockOf}
 use Rattle.tomo_base.specs.SetLists.{IsSetBelow, AreSetsWith}
 use Rattle.tomo_base.proofs.Members.{has-members, members_below}
 use Rattle.tomo_base.proofs.Ascending.{All-has, same_list, members_ascend}
 use Rattle.tomo_base.proofs.Counts.{count-same}
-use Rattle.tomo_base.specs.Parting.{without_two, IsClosedIn, AreJoinedIn, IsJoinedIn, IsJoinedWithoutOne, IsJoinedWithoutTwo}
+use Rattle.tomo_base.specs.Parting.{without_two, IsJoinedWithoutOne, IsJoinedWithoutTwo}
 use Rattle.tomo_base.proofs.Parting.{without_two-from, without_two-in, without_two-ne, without-from, without-parts, minus-in, minus-out, flip, joined-same}
 use Rattle.tomo_base.proofs.Reaching.{is_node, nodes_in, is_node-from, is_node_below, joined-or, Reaches-joined, joined-Reaches, connected-joined}
-use Rattle.tomo_base.proofs.Picks.{two-at-most, count-within}
+use Rattle.tomo_base.proofs.Picks.{two-at-most}
 use Rattle.tomo_base.specs.Parting.{IsThreeConnectedIn}
-use Rattle.blocks.proofs.SetLists.{Each, Some, Pairs}
-use Rattle.blocks.proofs.Unparted.{Unparted, Pairwise}
+use Rattle.blocks.proofs.Unparted.{Pairwise}
 use Rattle.blocks.proofs.Working.{like-from, each_at, some_at, same_test}
 use Rattle.split_tree.specs.declared.piece.Piece.{Piece}
 use Rattle.split_tree.specs.declared.tree.Tree.{Tree, Small, Rigid, Split', Row_of-Tree-Split-2-1, end_of-Tree-Split-2-1, more_of-Tree-Split-2-1, Row_of-Tree, end_of-Tree, more_of-Tree}
-use Rattle.split_tree.specs.Pieces.{net, IsPiece, IsPart, IsCutInto, IsPieceOf}
+use Rattle.split_tree.specs.Pieces.{net, IsPiece, IsPieceOf}
 use Rattle.split_tree.specs.Trees.{piece_of, box_pieces, row_pieces, IsSplit, Facts, BoxFacts, RowFacts, rigids_of, box_rigids, row_rigids, IsSplitTree}
 use Rattle.split_tree.proofs.Rigid.{Owned}
 use Rattle.split_tree.proofs.Sound.{Sound, ThreeBlockIn, small-sound, rigid-sound, split-sound, three-blocks}

@@ -1,18 +1,16 @@
 -- A block with its links is a piece that no single node cuts.
-use Rattle.std.proofs.Common.{◌≡◌, ◌≢◌, ℕ, ◌+◌, ◌<◌, ◌≤◌, Bool, true, false, not, ◌&&◌, ◌||◌, ◌==◌, List, length, All, IsTrue, refl, sym, ap, ap₂, ◌∙◌, subst, arith}
+use Rattle.std.proofs.Common.{◌≡◌, ℕ, ◌<◌, ◌≤◌, Bool, not, ◌&&◌, ◌==◌, List, length, IsTrue, sym, ap, ap₂, ◌∙◌, subst, arith}
 use Rattle.std.specs.List.{filter}
 use Rattle.std.proofs.lemmas.Bool.{and_parts, and_from}
-use Rattle.tomo_base.specs.declared.graph.Link.{Link}
 use Rattle.tomo_base.specs.Network.{Network, any_joins, linked, IsGraph}
-use Rattle.tomo_base.specs.Sets.{has, size, count, Within}
+use Rattle.tomo_base.specs.Sets.{has}
 use Rattle.tomo_base.specs.Search.{mark_of}
 use Rattle.tomo_base.specs.SetLists.{IsSetBelow}
 use Rattle.tomo_base.specs.Blocks.{IsBlock, IsNonseparable}
 use Rattle.tomo_base.proofs.Ascending.{All-has}
-use Rattle.tomo_base.specs.Parting.{IsClosedIn, IsJoinedWithoutOne}
+use Rattle.tomo_base.specs.Parting.{IsJoinedWithoutOne}
 use Rattle.tomo_base.proofs.Parting.{without-from, without-parts, joined-same}
 use Rattle.tomo_base.proofs.Reaching.{is_node, nodes_in, is_node-from}
-use Rattle.blocks.proofs.Cutting.{BlockLike}
 use Rattle.blocks.proofs.Working.{like-from, like-to}
 use Rattle.split_tree.specs.declared.piece.Piece.{Piece}
 use Rattle.split_tree.specs.Pieces.{net, IsPiece, IsPieceOf}

@@ -5,8 +5,8 @@ use Rattle.tomo_base.specs.declared.graph.Link.{Link}
 use Rattle.tomo_base.specs.Network.{AreLinks}
 use Rattle.split_tree.specs.declared.piece.Piece.{Piece}
 use Rattle.split_tree.specs.declared.tree.Tree.{Tree, Small, Rigid, Split', Row_of-Tree-Split-2-1, end_of-Tree-Split-2-1, more_of-Tree-Split-2-1, Row_of-Tree, end_of-Tree, more_of-Tree}
-use Rattle.split_tree.specs.Pieces.{IsPiece, IsPart, IsCutInto}
-use Rattle.split_tree.specs.Trees.{IsSplit, Facts, BoxFacts, RowFacts, IsSplitTree, row_pieces}
+use Rattle.split_tree.specs.Pieces.{IsPiece, IsPartAt, IsCutInto}
+use Rattle.split_tree.specs.Trees.{IsSplit, Facts, BoxFacts, RowFacts, IsSplitTree}
 
 -- links of a graph
 are_links_prop : (n : ℕ) (ls : List Link) → IsProp (AreLinks n ls)
@@ -18,7 +18,7 @@ is_piece_prop : (n : ℕ) (p : Piece) → IsProp (IsPiece n p)
 is_piece_prop n p = hlevel (are_links_prop, props)
 
 -- a part
-is_part_prop : (p : Piece) (pair : Link) (q : Piece) → IsProp (IsPart p pair q)
+is_part_prop : (p : Piece) (pair : Link) (q : Piece) → IsProp (IsPartAt p pair q)
 is_part_prop p pair q = hlevel props
 
 -- two parts

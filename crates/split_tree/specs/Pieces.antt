@@ -18,7 +18,7 @@ pub record IsPiece (n : ℕ) (p : Piece) : Type 0 where
 
 -- a part of a piece at two nodes: the two and some of the sets that are connected without them, as no link leads out of it but at the two;
 -- its links are those of the piece between its nodes, and the link between the two
-pub record IsPart (whole : Piece) (pair : Link) (part : Piece) : Type 0 where
+pub record IsPartAt (whole : Piece) (pair : Link) (part : Piece) : Type 0 where
   pub inside : (v : ℕ) → IsTrue (has part.nodes v) → IsTrue (has whole.nodes v)
   pub first : IsTrue (has part.nodes pair.a)
   pub second : IsTrue (has part.nodes pair.b)
@@ -29,8 +29,8 @@ pub record IsPart (whole : Piece) (pair : Link) (part : Piece) : Type 0 where
 -- two nodes cut a piece into two parts, which share the two alone and have all its nodes
 pub record IsCutInto (whole : Piece) (pair : Link) (left right : Piece) : Type 0 where
   pub ordered : pair.a < pair.b
-  pub one : IsPart whole pair left
-  pub other : IsPart whole pair right
+  pub one : IsPartAt whole pair left
+  pub other : IsPartAt whole pair right
   pub cover : (v : ℕ) → IsTrue (has whole.nodes v) → IsTrue (has left.nodes v || has right.nodes v)
   pub shared : (v : ℕ) → IsTrue (has left.nodes v) → IsTrue (has right.nodes v) → IsTrue ((v == pair.a) || (v == pair.b))
 

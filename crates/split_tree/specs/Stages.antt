@@ -24,7 +24,7 @@ pub record IsHalved (n : ℕ) (p : Piece) (h : Halves) : Type 0 where
 
 -- two different nodes of the piece, and a set of its other nodes, not all, from which no link leads out but to the two
 pub record IsPairCut (n : ℕ) (p : Piece) (cut : Parting) : Type 0 where
-  pub differ : cut.c ≢ cut.d
-  pub first : IsTrue (has p.nodes cut.c)
-  pub second : IsTrue (has p.nodes cut.d)
-  pub parted : IsParted (net n p) (has p.nodes) (has cut.side.items) cut.c cut.d
+  pub differ : cut.first ≢ cut.second
+  pub first : IsTrue (has p.nodes cut.first)
+  pub second : IsTrue (has p.nodes cut.second)
+  pub parted : IsParted (net n p) (has p.nodes) (has cut.side.items) cut.first cut.second

@@ -1,7 +1,6 @@
 -- Split trees: the facts of all levels, their depth, and the node sets of their rigid pieces.
-use Rattle.std.specs.Prelude.{ℕ, ◌≡◌, ◌+◌, ◌≤◌, max, List, [], ◌∷◌, ◌++◌, length}
+use Rattle.std.specs.Prelude.{ℕ, ◌+◌, ◌≤◌, max, List, [], ◌∷◌, ◌++◌, length}
 use Rattle.tomo_base.specs.declared.graph.Link.{Link}
-use Rattle.tomo_base.specs.Network.{Network}
 use Rattle.tomo_base.specs.Sets.{has}
 use Rattle.tomo_base.specs.NodeLists.{node_limit}
 use Rattle.tomo_base.specs.Blocks.{IsNonseparable}

@@ -9,7 +9,7 @@ use crate::marked::part;
 use crate::marks::{marks_of, marks_with, marks_without};
 use crate::piece::Piece;
 use std::alloc::Global;
-use three_conn::{Parting, begin, probe};
+use three_conn::{Parting, probe};
 use tomo_base::{Graph, GraphFault, Link, NoMemory};
 
 // Two nodes, and the two parts into which they cut a piece.
@@ -35,7 +35,8 @@ fn graph_of(alloc: Global, n: u32, piece: &Piece) -> Result<Graph, NoMemory>
     }
 }
 
-// Two nodes that part the piece, and one side.
+// Two nodes that part the piece, and one side: they are looked for around a node in the middle of the list, so that a long piece whose
+// nodes are numbered along it is cut near its middle.
 fn parting_of(alloc: Global, n: u32, piece: &Piece) -> Result<Option<Parting>, NoMemory>
     requires stage { IsStage n piece.now }
     requires few { n ≤ 10000 }
@@ -46,8 +47,8 @@ fn parting_of(alloc: Global, n: u32, piece: &Piece) -> Result<Option<Parting>, N
     let g = graph_of(alloc, n, piece)?;
     let nodes = piece.nodes.as_slice();
     let marks = marks_of(alloc, n, nodes)?;
-    let mut known = begin(alloc, &g, &marks, nodes[0])?;
-    match probe(alloc, &g, &marks, &mut known)? {
+    let middle = nodes[nodes.len() / 2];
+    match probe(alloc, &g, &marks, middle)? {
         Some(parting) => Ok(Some(parting)),
         None => Ok(None),
     }
@@ -65,8 +66,8 @@ pub fn cut(alloc: Global, n: u32, piece: &Piece) -> Result<Option<Halves>, NoMem
         return Ok(None);
     };
     let pair = Link {
-        a: parting.c.min(parting.d),
-        b: parting.c.max(parting.d),
+        a: parting.first.min(parting.second),
+        b: parting.first.max(parting.second),
     };
     let near = marks_with(alloc, n, &parting.side, pair)?;
     let far = marks_without(alloc, n, piece.nodes.as_slice(), &parting.side)?;

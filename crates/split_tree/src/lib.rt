@@ -7,8 +7,6 @@ mod marks;
 mod piece;
 mod rigid_pieces;
 mod splitting;
-#[cfg(test)]
-mod tests;
 mod tree;
 
 pub use piece::Piece;

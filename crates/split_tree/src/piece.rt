@@ -12,7 +12,7 @@ pub struct Piece {
 }
 
 impl Piece {
-    /// The nodes, in ascending order.
+    /// The nodes, in ascending order. It takes no memory.
     pub fn nodes(&self) -> &[u32]
         ensures { result.now ≡ self.now.nodes }
     {

@@ -33,7 +33,7 @@ pub struct SplitTree {
 }
 
 impl SplitTree {
-    /// The whole tree.
+    /// The whole tree. It takes no memory.
     pub fn root(&self) -> &Tree
         ensures { result.now ≡ self.now.root }
     {

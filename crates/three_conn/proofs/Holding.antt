@@ -7,8 +7,7 @@ use Rattle.tomo_base.specs.Walks.{Reaches, IsConnectedIn}
 use Rattle.tomo_base.proofs.Walks.{Reaches-trans, Reaches_comm, Reaches-within, Reaches-inside, connected_by}
 use Rattle.tomo_base.specs.Parting.{without_two}
 use Rattle.tomo_base.specs.Parting.{with_one}
-use Rattle.three_conn.specs.Held.{IsHeld, IsCheckedTo, IsKnown}
-use Rattle.three_conn.specs.declared.known.Known.{Known}
+use Rattle.three_conn.specs.Held.{IsHeld, IsCheckedTo}
 use Rattle.tomo_base.proofs.Parting.{without_two-from, without_two_gives}
 use Rattle.three_conn.proofs.Sets.{one_beside_three}
 
@@ -119,13 +118,8 @@ module _ (g : Network) (w held : ℕ → Bool) (root : ℕ) (graph : IsGraph g) 
       turned x y u v ux vy z t = let at = without_two_gives w y x z t in without_two-from w u v z at.0 (λ e. at.2 (e ∙ ux)) (λ e. at.1 (e ∙ vy))
 
 -- one node more is checked
-pub known_more : (g : Network) (w : ℕ → Bool) (known : Known) (v : ℕ) → IsKnown g w known → known.checked ≡ v → (w v ≡ true → v ≢ known.root → IsConnectedIn g (without_two w known.root v))
-    → IsKnown g w (record { root = known.root; held = known.held; checked = v + 1 })
-known_more g w known v k at here = record {
-  marks = k.marks;
-  held = k.held;
-  checked = λ u l t other. elim (cases_eq u v) [
-    | inl same ↦ subst (λ z. IsConnectedIn g (without_two w known.root z)) (sym same) (here (subst (λ z. w z ≡ true) same t) (λ e. other (same ∙ e)))
-    | inr before ↦ k.checked u (omega (arith, l, before, at)) t other
-  ];
-}
+pub checked_more : (g : Network) (w : ℕ → Bool) (root v : ℕ) → IsCheckedTo g w root v → (w v ≡ true → v ≢ root → IsConnectedIn g (without_two w root v)) → IsCheckedTo g w root (v + 1)
+checked_more g w root v before here u l t other = elim (cases_eq u v) [
+  | inl same ↦ subst (λ z. IsConnectedIn g (without_two w root z)) (sym same) (here (subst (λ z. w z ≡ true) same t) (λ e. other (same ∙ e)))
+  | inr less ↦ before u (omega (arith, l, less)) t other
+]

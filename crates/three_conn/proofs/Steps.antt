@@ -11,8 +11,9 @@ use Rattle.tomo_base.proofs.Walks.{Reaches-step, Reaches-within}
 use Rattle.tomo_base.proofs.Ascending.{place_in, has-at, All-has, All-from_has}
 use Rattle.tomo_base.proofs.Searching.{few_ranked, ranked_below, placed_free, parent_at, way_up}
 use Rattle.tomo_base.specs.Parting.{with_one}
-use Rattle.three_conn.specs.Held.{IsHeld, IsRest, IsParting}
-use Rattle.three_conn.specs.Trees.{IsRanked, IsTree, LeadsTo, IsWayUp, IsGate, HasNoGate}
+use Rattle.three_conn.specs.Held.{IsHeld, IsRest}
+use Rattle.three_conn.specs.Parting.{IsParting}
+use Rattle.three_conn.specs.Trees.{IsRanked, IsTree, GoesUpTo, IsWayUp, IsGate, HasNoGate}
 use Rattle.three_conn.proofs.Holding.{IsArm, held_more}
 use Rattle.tomo_base.proofs.Parting.{without_two-from, without_two_gives}
 
@@ -104,7 +105,7 @@ module _ (g : Network) (free : List Bool) (x : ℕ) (s : Swept) (graph : IsGraph
       subst (λ z. IsTrue (linked g (entry_at s.parent.items z) z)) at.2 up.2
 
   -- a way up, walked down
-  way_down : (y : ℕ) (p : List ℕ) (u : ℕ) → LeadsTo s.parent.items y p u → ((v : ℕ) → IsTrue (has p v) → IsRanked s v × (1 ≤ entry_at s.rank.items v)) → Reaches g (has p) u y
+  way_down : (y : ℕ) (p : List ℕ) (u : ℕ) → GoesUpTo s.parent.items y p u → ((v : ℕ) → IsTrue (has p v) → IsRanked s v × (1 ≤ entry_at s.rank.items v)) → Reaches g (has p) u y
   unfolding has
   way_down y [] u h up = ([], tt, tt, sym h)
   way_down y (e ∷ p) u h up =
@@ -180,7 +181,7 @@ module _ (g : Network) (free : List Bool) (x : ℕ) (s : Swept) (graph : IsGraph
 
     -- where all gates of the search lead to two nodes, or fewer, these part the set
     pub few_gates : ((v : ℕ) → IsTrue (w v) → v < g.nodes) → (c d : ℕ) → All (λ v. HasNoGate g w (mark_of free) v c d) s.order.items → IsEnd c → IsEnd d
-        → (root : ℕ) (held : ℕ → Bool) → IsHeld g w root held → IsRest w held (mark_of free) → IsParting g w root held (record { side = s.order; c = c; d = d })
+        → (root : ℕ) (held : ℕ → Bool) → IsHeld g w root held → IsRest w held (mark_of free) → IsParting g w (record { side = s.order; first = c; second = d })
     few_gates below c d none end_c end_d root held h rest =
         let in_set : (v : ℕ) → IsTrue (has s.order.items v) → IsTrue (w v) × (held v ≡ true → ⊥) = λ v k. free_gives w held (mark_of free) v rest (free_in v k) in
         let other : (e : ℕ) → IsEnd e → (v : ℕ) → IsTrue (has s.order.items v) → v ≢ e = λ e end v k same. elim end [
@@ -216,5 +217,4 @@ module _ (g : Network) (free : List Bool) (x : ℕ) (s : Swept) (graph : IsGraph
           };
           first_most = most c end_c;
           second_most = most d end_d;
-          by_root = inr ((λ e. root_other c end_c (sym e)), (λ e. root_other d end_d (sym e)), (λ v k t. (in_set v k).1 t));
         }

@@ -5,7 +5,7 @@ use Rattle.tomo_base.specs.Sets.{has}
 use Rattle.tomo_base.specs.Search.{entry_at}
 use Rattle.tomo_base.specs.declared.search.Swept.{Swept}
 use Rattle.tomo_base.proofs.Members.{has-append}
-use Rattle.three_conn.specs.Trees.{IsRanked, IsTree, LeadsTo, IsWayUp}
+use Rattle.three_conn.specs.Trees.{IsRanked, IsTree, GoesUpTo, IsWayUp}
 
 -- nothing stands in the empty list
 none_in_empty : (v : ℕ) → IsTrue (has [] v) → ⊥
@@ -21,7 +21,7 @@ in_pushed p u v h = elim (or_cases (has p v) (has (u ∷ []) v) (sym (has-append
 ]
 
 -- a way goes one step further up
-way_more : (parent : List ℕ) (y : ℕ) (p : List ℕ) (u : ℕ) → LeadsTo parent y p u → LeadsTo parent y (p ++ u ∷ []) (entry_at parent u)
+way_more : (parent : List ℕ) (y : ℕ) (p : List ℕ) (u : ℕ) → GoesUpTo parent y p u → GoesUpTo parent y (p ++ u ∷ []) (entry_at parent u)
 way_more parent y [] u h = (h, refl)
 way_more parent y (x ∷ p) u h = (h.0, way_more parent (entry_at parent x) p u h.1)
 

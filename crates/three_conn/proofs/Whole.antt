@@ -1,20 +1,21 @@
 -- What no two nodes part is three-connected, and what two nodes part is not.
-use Rattle.std.proofs.Common.{◌≡◌, ℕ, ◌<◌, ◌≤◌, ◌⊎◌, Bool, true, false, not, ◌||◌, ◌==◌, List, [], ◌∷◌, length, replicate, All, IfOk, IfNone, Result, Ok, Err, Option, Some, None, refl, sym, ap, subst, ◌∙◌, inl, inr, arith}
+use Rattle.std.proofs.Common.{◌≡◌, ℕ, ◌-◌, ◌<◌, ◌≤◌, ◌⊎◌, Bool, true, false, not, ◌||◌, ◌==◌, List, [], ◌∷◌, length, get_or, replicate, All, IfOk, IfNone, Result, Ok, Err, Option, Some, None, refl, sym, ap, subst, ◌∙◌, inl, inr, arith}
 use Rattle.std.proofs.lemmas.Bool.{cases_Bool, both_ways, and_parts, and_from, or_cases, or_left, or_right, not_from_false, not-true, false_from_ne_true, eqb-true, eq-eqb, ne_eqb}
-use Rattle.std.proofs.lemmas.List.{get_or-replicate}
+use Rattle.std.proofs.lemmas.List.{get_or-replicate, get_or_default}
 use Rattle.std.proofs.lemmas.Bool.Decides.{nat_tests}
 use Rattle.std.specs.List.Sorted.{IsStrictlyIncreasing}
 use Rattle.tomo_base.specs.Network.{Network, IsGraph}
 use Rattle.tomo_base.specs.Sets.{count, has, size, minus, complement}
 use Rattle.tomo_base.specs.Walks.{IsConnectedIn, everything}
-use Rattle.tomo_base.specs.Search.{mark_of}
+use Rattle.tomo_base.specs.Search.{mark_of, IsSweep}
+use Rattle.tomo_base.specs.declared.search.Swept.{Swept}
 use Rattle.tomo_base.specs.Cuts.{IsThreeConnected}
 use Rattle.tomo_base.proofs.Counts.{count_two, count-everything, count-mono}
 use Rattle.tomo_base.proofs.Members.{count-has, count_has-le}
 use Rattle.tomo_base.proofs.Walks.{connected_inside}
 use Rattle.tomo_base.proofs.Ascending.{All-from_has}
 use Rattle.tomo_base.specs.Parting.{without_two, IsThreeConnectedIn}
-use Rattle.three_conn.specs.Parting.{IsParted}
+use Rattle.three_conn.specs.Parting.{IsParted, IsWholeAcross}
 use Rattle.three_conn.specs.Answers.{IsSeparating}
 use Rattle.three_conn.specs.declared.known.Parting.{Parting}
 use Rattle.tomo_base.specs.declared.memory.NoMemory.{NoMemory}
@@ -55,11 +56,12 @@ whole_graph g w graph four all t = record {
 
 -- and two nodes that part it are such as the answer tells
 pub separated : (g : Network) (w side : ℕ → Bool) (c d : ℕ) (nodes : List ℕ) → IsGraph g → 4 ≤ g.nodes → ((v : ℕ) → v < g.nodes → w v ≡ true) → IsParted g w side c d
-    → length nodes ≤ 2 → All (λ v. v < g.nodes) nodes → ((v : ℕ) → v < g.nodes → has nodes v ≡ ((v == c) || (v == d))) → IsSeparating g nodes
-separated g w side c d nodes graph four all parted few below are = record {
+    → length nodes ≤ 2 → All (λ v. v < g.nodes) nodes → IsStrictlyIncreasing nodes → ((v : ℕ) → v < g.nodes → has nodes v ≡ ((v == c) || (v == d))) → IsSeparating g nodes
+separated g w side c d nodes graph four all parted few below up are = record {
   four = four;
   few = few;
   below = below;
+  ascending = up;
   apart = λ connected. parted_apart g w side c d parted (connected_inside g (complement (has nodes)) (without_two w c d) graph
       (λ v l h. let out : has nodes v ≡ false = not-true (has nodes v) h in
       without_two-from w c d v (all v l) (λ e. both_ways (has nodes v) out (are v l ∙ or_left (v == c) (v == d) (eq-eqb v c e))) (λ e. both_ways (has nodes v) out (are v l ∙ or_right (v == c) (v == d) (eq-eqb v d e))))
@@ -95,7 +97,7 @@ not_added n c old out = record {
 }
 
 -- two numbers added to the empty set
-pub two_added : (n c d : ℕ) (one two : List ℕ) → IsAdded n c [] one → IsAdded n d one two → (length two ≤ 2) × All (λ v. v < n) two × ((v : ℕ) → v < n → has two v ≡ ((v == c) || (v == d)))
+pub two_added : (n c d : ℕ) (one two : List ℕ) → IsAdded n c [] one → IsAdded n d one two → (length two ≤ 2) × All (λ v. v < n) two × IsStrictlyIncreasing two × ((v : ℕ) → v < n → has two v ≡ ((v == c) || (v == d)))
 unfolding has
 two_added n c d one two a b =
     let below : (v : ℕ) → has two v ≡ true → v < n = b.below (a.below (λ v h. absurd (both_ways false refl h))) in
@@ -104,7 +106,7 @@ two_added n c d one two a b =
     let up : IsStrictlyIncreasing two = b.ascending (a.ascending (λ k l. absurd (omega arith))) in
     let size : count n (has two) ≡ length two = count-has n two up all in
     let most : count n (has two) ≤ count n (has (c ∷ d ∷ [])) = count-mono n (has two) (has (c ∷ d ∷ [])) (λ v l h. flipped c d v (sym (nodes v l) ∙ h)) in
-    (omega (arith, size, most, count_has-le n (c ∷ d ∷ [])), all, nodes)
+    (omega (arith, size, most, count_has-le n (c ∷ d ∷ [])), all, up, nodes)
   where
     ordered : (c d v : ℕ) → ((d == v) || ((c == v) || false)) ≡ ((v == c) || (v == d))
     ordered c d v = grind (arith, nat_tests)
@@ -117,6 +119,19 @@ pub then_whole : (r : Result (Option Parting) NoMemory) (A B : Type 0) → IfOk 
 then_whole (Ok (Some p)) A B h f = h
 then_whole (Ok None) A B h f = f h
 then_whole (Err e) A B h f = h
+
+-- what is known where the root and the last node that was reached do not part the set
+pub none_across : (g : Network) (nodes : List Bool) (root last : ℕ) (s : Swept) (r : Result (Option Parting) NoMemory) → IsSweep g nodes (root ∷ []) s → (n : ℕ) → n ≡ length s.order.items → last ≡ get_or s.order.items (n - 1) last
+    → IfOk r (λ o. IfNone o (IsConnectedIn g (without_two (mark_of nodes) root last))) → IfOk r (λ o. IfNone o (IsWholeAcross g nodes root))
+none_across g nodes root last s r sweep n size at whole = then_whole r (IsConnectedIn g (without_two (mark_of nodes) root last)) (IsWholeAcross g nodes root) whole (λ w.
+    let some = (sweep.begins 0 (omega arith)).0 in
+    record {
+      found = s;
+      search = sweep;
+      place = n - 1;
+      last = omega (arith, some, size);
+      whole = subst (λ z. IsConnectedIn g (without_two (mark_of nodes) root z)) (at ∙ get_or_default s.order.items (n - 1) last 0 (omega (arith, some, size))) w;
+    })
 
 -- a set with all of four numbers has four
 pub all_marked_size : (n : ℕ) (w : ℕ → Bool) → ((v : ℕ) → v < n → w v ≡ true) → 4 ≤ n → 4 ≤ count n w

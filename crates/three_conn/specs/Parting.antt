@@ -1,7 +1,12 @@
 -- Two nodes that part a set.
-use Rattle.std.specs.Prelude.{ℕ, ◌≡◌, ◌<◌, Bool, false, IsTrue}
+use Rattle.std.specs.Prelude.{ℕ, ◌≡◌, ◌+◌, ◌<◌, ◌≤◌, Bool, false, List, [], ◌∷◌, length, IsTrue}
 use Rattle.tomo_base.specs.Network.{Network}
+use Rattle.tomo_base.specs.Sets.{has}
+use Rattle.tomo_base.specs.Walks.{IsConnectedIn}
+use Rattle.tomo_base.specs.Search.{mark_of, entry_at, IsSweep}
+use Rattle.tomo_base.specs.declared.search.Swept.{Swept}
 use Rattle.tomo_base.specs.Parting.{without_two, IsClosedIn}
+use Rattle.three_conn.specs.declared.known.Parting.{Parting}
 
 -- without c and d no link leads from the side to the rest of the set, and either of them has a node
 pub record IsParted (g : Network) (w side : ℕ → Bool) (c d : ℕ) : Type 0 where
@@ -9,3 +14,17 @@ pub record IsParted (g : Network) (w side : ℕ → Bool) (c d : ℕ) : Type 0 w
   pub shut : IsClosedIn g (without_two w c d) side
   pub some : (v : ℕ) × (v < g.nodes) × IsTrue (side v)
   pub rest : (v : ℕ) × (v < g.nodes) × IsTrue (without_two w c d v) × (side v ≡ false)
+
+-- two nodes that part the set, or fewer: the number of nodes stands for none
+pub record IsParting (g : Network) (w : ℕ → Bool) (p : Parting) : Type 0 where
+  pub parted : IsParted g w (has p.side.items) p.first p.second
+  pub first_most : p.first ≤ g.nodes
+  pub second_most : p.second ≤ g.nodes
+
+-- the root and a node at the end of a search from it do not part the set
+pub record IsWholeAcross (g : Network) (nodes : List Bool) (root : ℕ) : Type 0 where
+  pub found : Swept
+  pub search : IsSweep g nodes (root ∷ []) found
+  pub place : ℕ
+  pub last : place + 1 ≡ length found.order.items
+  pub whole : IsConnectedIn g (without_two (mark_of nodes) root (entry_at found.order.items place))

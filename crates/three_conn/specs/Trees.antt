@@ -17,16 +17,16 @@ pub record IsTree (s : Swept) : Type 0 where
   pub once : (v w : ℕ) → IsRanked s v → IsRanked s w → entry_at s.rank.items v ≡ entry_at s.rank.items w → v ≡ w
 
 -- the way up from v goes over the nodes of the list and then to u
-abbrev pub LeadsTo : List ℕ → ℕ → List ℕ → ℕ → Type 0
-LeadsTo parent v [] u = v ≡ u
-LeadsTo parent v (x ∷ p) u = (v ≡ x) × LeadsTo parent (entry_at parent x) p u
+abbrev pub GoesUpTo : List ℕ → ℕ → List ℕ → ℕ → Type 0
+GoesUpTo parent v [] u = v ≡ u
+GoesUpTo parent v (x ∷ p) u = (v ≡ x) × GoesUpTo parent (entry_at parent x) p u
 
 -- the ways up from y and from z have come to u and to v: they share no node, and each of their nodes has a higher rank than both
 pub record IsWayUp (s : Swept) (y z u v : ℕ) : Type 0 where
   pub first : List ℕ
   pub second : List ℕ
-  pub first_leads : LeadsTo s.parent.items y first u
-  pub second_leads : LeadsTo s.parent.items z second v
+  pub first_leads : GoesUpTo s.parent.items y first u
+  pub second_leads : GoesUpTo s.parent.items z second v
   pub apart : Apart (has first) (has second)
   pub above : (w : ℕ) → IsTrue (has first w) ⊎ IsTrue (has second w) → IsRanked s w × (entry_at s.rank.items u < entry_at s.rank.items w) × (entry_at s.rank.items v < entry_at s.rank.items w)
 

@@ -1,9 +1,9 @@
 // Whether a graph is three-connected.
 ghost use Rattle.std.specs.Prelude.{◌≡◌, ◌<◌, ◌≤◌, ◌||◌, ◌==◌, ℕ, All, length, IfOk};
+ghost use Rattle.std.specs.List.Sorted.{IsStrictlyIncreasing};
 ghost use Rattle.tomo_base.specs.Sets.{has};
 ghost use Rattle.three_conn.specs.Answers.{IsConn};
 
-use crate::known::{Parting, begin};
 use crate::probing::probe;
 use std::alloc::Global;
 use tomo_base::{Graph, NoMemory, NodeSet};
@@ -15,27 +15,29 @@ pub enum Conn {
     Yes,
     /// It has fewer than four nodes.
     Few,
-    /// At most two nodes, without which the graph is not connected.
+    /// At most two nodes, in ascending order, without which the graph is not connected.
     Cut(NodeSet),
 }
 
+// No graph of fewer nodes is three-connected.
+const FEWEST: u32 = 4;
+
 /// Tells whether a graph is three-connected: `Few` exactly where it has fewer than four nodes, `Yes` exactly where it is, and else `Cut`
-/// with at most two nodes without which it is not connected. Nodes that no two others part from a node with the most neighbours are
-/// gathered one by one, each where three ways lead to those gathered; then each node is tried together with that node. At most three
-/// searches a node, each linear in nodes and links.
+/// with at most two nodes without which it is not connected. A way of its own: nodes that no two others part from a node with the most
+/// neighbours are gathered one by one, each where three ways lead to those gathered; then each node is tried together with that node. At
+/// most three searches a node, each linear in nodes and links.
 pub fn three_connected(alloc: Global, g: &Graph) -> Result<Conn, NoMemory>
     ensures { IfOk result (IsConn g.now) }
 {
     let n = g.nodes();
-    if n < 4 {
+    if n < FEWEST {
         return Ok(Conn::Few);
     }
     let nodes = vec![in alloc; true; n as usize]?;
     let root = busiest(g);
-    let mut known = begin(alloc, g, &nodes, root)?;
-    match probe(alloc, g, &nodes, &mut known)? {
+    match probe(alloc, g, &nodes, root)? {
         None => Ok(Conn::Yes),
-        Some(parting) => Ok(Conn::Cut(pair(alloc, n, parting.c, parting.d)?)),
+        Some(parting) => Ok(Conn::Cut(pair(alloc, n, parting.first, parting.second)?)),
     }
 }
 
@@ -44,6 +46,7 @@ fn pair(alloc: Global, n: u32, c: u32, d: u32) -> Result<NodeSet, NoMemory>
     requires few { n ≤ 10000 }
     ensures size { IfOk result (λ s. length s ≤ 2) }
     ensures below { IfOk result (λ s. All (λ v. v < n) s) }
+    ensures ascending { IfOk result IsStrictlyIncreasing }
     ensures nodes { IfOk result (λ s. (v : ℕ) → v < n → has s v ≡ ((v == c) || (v == d))) }
 {
     let mut set = NodeSet::new(alloc);

@@ -6,14 +6,11 @@ ghost use Rattle.three_conn.specs.Held.{IsKnown};
 use std::alloc::Global;
 use tomo_base::{Graph, NoMemory};
 
-/// What is known of a set of nodes: no two nodes other than the root part a node that is held from the root, and the root and no node
-/// below `checked` part the set.
+// No two nodes other than the root part a node that is held from the root; a mark for each node of the graph tells whether it is held.
 #[derive(Drop)]
 pub struct Known {
     pub root: u32,
-    /// A mark for each node of the graph.
     pub held: Vec<bool>,
-    pub checked: u32,
 }
 
 /// Two nodes of a set, and different nodes of it, in no order, from which no link leads to the others but over the two. The number of
@@ -21,20 +18,20 @@ pub struct Known {
 #[derive(Drop)]
 pub struct Parting {
     pub side: Vec<u32>,
-    pub c: u32,
-    pub d: u32,
+    pub first: u32,
+    pub second: u32,
 }
 
-/// How the held nodes grow.
+// How the held nodes grow.
 #[derive(Drop)]
-pub enum Step {
-    /// One node more may be held.
+pub enum Growth {
+    // One node more may be held.
     More(u32),
-    /// Two nodes part the set.
+    // Two nodes part the set.
     Parted(Parting),
 }
 
-/// What is known of a set of nodes at the beginning: its root and the neighbours of the root are held.
+// What is known at the beginning: the root and its neighbours are held.
 pub fn begin(alloc: Global, g: &Graph, nodes: &[bool], root: u32) -> Result<Known, NoMemory>
     requires marks { length nodes.now ≡ g.now.nodes }
     requires root { mark_of nodes.now root ≡ true }
@@ -46,9 +43,5 @@ pub fn begin(alloc: Global, g: &Graph, nodes: &[bool], root: u32) -> Result<Know
     for hop in g.hops(root) {
         held[hop.node as usize] = true;
     }
-    Ok(Known {
-        root,
-        held,
-        checked: 0,
-    })
+    Ok(Known { root, held })
 }

@@ -8,9 +8,7 @@ mod known;
 mod marks;
 mod meeting;
 mod probing;
-#[cfg(test)]
-mod tests;
 
 pub use connection::{Conn, three_connected};
-pub use known::{Known, Parting, begin};
+pub use known::Parting;
 pub use probing::probe;

@@ -1,14 +1,14 @@
 // Looking for two nodes that part a set.
-ghost use Rattle.std.specs.Prelude.{◌≡◌, ◌<◌, ◌≤◌, ◌≢◌, ℕ, true, length, IfOk, IfSome, IfNone};
-ghost use Rattle.tomo_base.specs.Sets.{has, size, Within};
+ghost use Rattle.std.specs.Prelude.{◌≡◌, ◌<◌, ◌≤◌, true, length, IfOk, IfSome, IfNone};
+ghost use Rattle.tomo_base.specs.Sets.{has, size};
 ghost use Rattle.tomo_base.specs.Walks.{IsConnectedIn};
 ghost use Rattle.tomo_base.specs.Search.{mark_of};
 ghost use Rattle.tomo_base.specs.Parting.{without_two, IsThreeConnectedIn};
-ghost use Rattle.three_conn.specs.Parting.{IsParted};
-ghost use Rattle.three_conn.specs.Held.{IsKnown, IsParting, IsCheckedTo};
+ghost use Rattle.three_conn.specs.Parting.{IsParted, IsParting, IsWholeAcross};
+ghost use Rattle.three_conn.specs.Held.{IsCheckedTo};
 
 use crate::growing::grow;
-use crate::known::{Known, Parting};
+use crate::known::{Parting, begin};
 use crate::marks::{all_but, first_marked, first_missed};
 use std::alloc::Global;
 use tomo_base::{Graph, NoMemory, sweep};
@@ -40,57 +40,96 @@ fn side_without(
     }
 }
 
-// Looks for a node that parts the set together with the root, where all nodes are held.
-fn check(
+// The parting of the set by two nodes, where these part it.
+fn parting_at(
     alloc: Global,
     g: &Graph,
     nodes: &[bool],
-    known: &mut Known,
+    first: u32,
+    second: u32,
 ) -> Result<Option<Parting>, NoMemory>
     requires marks { length nodes.now ≡ g.now.nodes }
-    requires known { IsKnown g.now (mark_of nodes.now) known.old }
-    requires whole { Within (mark_of nodes.now) (mark_of known.old.held.items) }
-    ensures known { IsKnown g.now (mark_of nodes.now) known.new }
-    ensures root { known.new.root ≡ known.old.root }
-    ensures held { known.new.held.items ≡ known.old.held.items }
-    ensures all { IfOk result (λ o. IfNone o (IsCheckedTo g.now (mark_of nodes.now) known.new.root g.now.nodes)) }
-    ensures parting { IfOk result (λ o. IfSome o (IsParting g.now (mark_of nodes.now) known.new.root (mark_of known.new.held.items))) }
+    requires first { first < g.now.nodes }
+    requires second { second < g.now.nodes }
+    ensures none { IfOk result (λ o. IfNone o (IsConnectedIn g.now (without_two (mark_of nodes.now) first second))) }
+    ensures parting { IfOk result (λ o. IfSome o (IsParting g.now (mark_of nodes.now))) }
+    ensures pair { IfOk result (λ o. IfSome o (λ p. (p.first ≡ first) × (p.second ≡ second))) }
 {
-    for v in known.checked..g.nodes() {
-        if nodes[v as usize] && v != known.root {
-            if let Some(side) = side_without(alloc, g, nodes, known.root, v)? {
-                return Ok(Some(Parting {
-                    side,
-                    c: known.root,
-                    d: v,
-                }));
+    let _count = g.nodes();
+    match side_without(alloc, g, nodes, first, second)? {
+        Some(side) => Ok(Some(Parting {
+            side,
+            first,
+            second,
+        })),
+        None => Ok(None),
+    }
+}
+
+// Looks for a node that parts the set together with the root.
+fn check(alloc: Global, g: &Graph, nodes: &[bool], root: u32) -> Result<Option<Parting>, NoMemory>
+    requires marks { length nodes.now ≡ g.now.nodes }
+    requires root { root < g.now.nodes }
+    ensures all { IfOk result (λ o. IfNone o (IsCheckedTo g.now (mark_of nodes.now) root g.now.nodes)) }
+    ensures parting { IfOk result (λ o. IfSome o (IsParting g.now (mark_of nodes.now))) }
+{
+    for v in 0..g.nodes() {
+        if nodes[v as usize] && v != root {
+            if let Some(parting) = parting_at(alloc, g, nodes, root, v)? {
+                return Ok(Some(parting));
             }
         }
-        known.checked = v + 1;
     }
     Ok(None)
 }
 
-/// Looks for two nodes that part a set of at least four nodes of a graph; what links lead out of the set is not looked at. What is known
-/// grows, also where memory is wanting, and may be kept for a part of the set that has the root. A search for each node that is not held
-/// yet, and one for each that is not checked yet, each linear in nodes and links.
+// Looks for two nodes that part a set of at least four nodes: lets the held nodes grow, and where all are held tries each with the root.
+fn seek(alloc: Global, g: &Graph, nodes: &[bool], root: u32) -> Result<Option<Parting>, NoMemory>
+    requires marks { length nodes.now ≡ g.now.nodes }
+    requires four { 4 ≤ size g.now (mark_of nodes.now) }
+    requires root { mark_of nodes.now root ≡ true }
+    ensures whole { IfOk result (λ o. IfNone o (IsThreeConnectedIn g.now (mark_of nodes.now))) }
+    ensures parting { IfOk result (λ o. IfSome o (IsParting g.now (mark_of nodes.now))) }
+{
+    let _count = g.nodes();
+    let mut known = begin(alloc, g, nodes, root)?;
+    match grow(alloc, g, nodes, &mut known)? {
+        Some(parting) => Ok(Some(parting)),
+        None => check(alloc, g, nodes, root),
+    }
+}
+
+// Tries the root with the last node that a search from it reaches.
+fn halve(alloc: Global, g: &Graph, nodes: &[bool], root: u32) -> Result<Option<Parting>, NoMemory>
+    requires marks { length nodes.now ≡ g.now.nodes }
+    requires root { mark_of nodes.now root ≡ true }
+    requires node { root < g.now.nodes }
+    ensures none { IfOk result (λ o. IfNone o (IsWholeAcross g.now nodes.now root)) }
+    ensures parting { IfOk result (λ o. IfSome o (IsParting g.now (mark_of nodes.now))) }
+{
+    let _count = g.nodes();
+    let found = sweep(alloc, g, nodes, &[root])?;
+    let last = found.order[found.order.len() - 1];
+    parting_at(alloc, g, nodes, root, last)
+}
+
+/// Looks for two nodes that part a set of at least four nodes of a graph; what links lead out of the set is not looked at. The root, a node
+/// of the set, is first tried with a node farthest from it, so that a ring is cut in half, and a split tree of rings is as deep as the
+/// logarithm of their nodes. At most three searches a node, each linear in nodes and links.
 pub fn probe(
     alloc: Global,
     g: &Graph,
     nodes: &[bool],
-    known: &mut Known,
+    root: u32,
 ) -> Result<Option<Parting>, NoMemory>
     requires marks { length nodes.now ≡ g.now.nodes }
     requires four { 4 ≤ size g.now (mark_of nodes.now) }
-    requires known { IsKnown g.now (mark_of nodes.now) known.old }
-    ensures known { IsKnown g.now (mark_of nodes.now) known.new }
-    ensures root { known.new.root ≡ known.old.root }
+    requires root { mark_of nodes.now root ≡ true }
     ensures whole { IfOk result (λ o. IfNone o (IsThreeConnectedIn g.now (mark_of nodes.now))) }
-    ensures parting { IfOk result (λ o. IfSome o (IsParting g.now (mark_of nodes.now) known.new.root (mark_of known.new.held.items))) }
+    ensures parting { IfOk result (λ o. IfSome o (IsParting g.now (mark_of nodes.now))) }
 {
-    let _count = g.nodes();
-    match grow(alloc, g, nodes, known)? {
+    match halve(alloc, g, nodes, root)? {
         Some(parting) => Ok(Some(parting)),
-        None => check(alloc, g, nodes, known),
+        None => seek(alloc, g, nodes, root),
     }
 }

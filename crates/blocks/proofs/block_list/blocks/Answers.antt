@@ -11,3 +11,9 @@ returns-clause-blocks c = record {
   with_it = sets_same c.args.g.now.nodes (IsBlock c.args.g.now) _ _ c.in_ok-found.ensures.blocks c.in_ok-list.ensures.same;
   in_order = c.in_ok-list.ensures.ascending;
 }
+
+pub ordered_sets-requires-clause-few : goal.ordered_sets-requires-clause-few
+ordered_sets-requires-clause-few c = omega (arith, c.in_ok-found.ensures.few, c.nodes-nodes.ensures.few, c.nodes-nodes.ensures.nodes)
+
+pub returns-clause-few : goal.returns-clause-few
+returns-clause-few c = omega (arith, c.in_ok-found.ensures.few, c.in_ok-list.ensures.no_more)

@@ -27,3 +27,6 @@ loop-part-preserved c = rw (c.in_ok-push-in-Some-2-2.ensures.items, c.in_ok-push
 
 pub returns-clause-blocks : goal.returns-clause-blocks
 returns-clause-blocks c = working_end c.args.g.now c.loop-part.todo.items c.loop-part.found.items (omega (arith, c.in_default.ensures.cases.0)) c.loop-part.invariant
+
+pub returns-clause-few : goal.returns-clause-few
+returns-clause-few c = omega (arith, c.loop-part.invariant.few)

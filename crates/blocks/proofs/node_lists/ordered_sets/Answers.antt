@@ -30,6 +30,14 @@ loop-nodes-preserved c =
     ∙ (ap₂ (λ xs x. xs ++ x ∷ []) c.loop-nodes.invariant (c.in_ok-set_of.ensures ∙ (c.deref.ensures.value ∙ sym here)) ∙ sym (take_more (lists_of vs) i [] (omega (arith, many, c.loop-nodes-test.true)))) in
     next
 
+pub returns-clause-no_more : goal.returns-clause-no_more
+returns-clause-no_more c =
+    let vs = c.deref-nodes-items.result.now in
+    let few : length vs ≤ length c.args.lists.items = rw c.deref-nodes-items.ensures.value c.sort_lists.ensures.few in
+    let many : length (lists_of vs) ≡ length vs = length-map vs (λ (v : Vec ℕ Global). v.items) in
+    let all : length c.loop-nodes.sets ≡ length (lists_of vs) = ap length c.loop-nodes.invariant ∙ ap length (take_all c.loop-nodes.nodes-index (lists_of vs) (omega (arith, many, c.loop-nodes-test.false))) in
+    omega (arith, few, many, all)
+
 pub returns-clause-same : goal.returns-clause-same
 returns-clause-same c =
     let vs = c.deref-nodes-items.result.now in

@@ -50,13 +50,13 @@ loop-v-preserved c =
           (filter_past (is_near n rank cut) nodes _ c.loop-v.v-index 0 v c.loop-v-test.true refl tests.0 c.loop-v.invariant.0, filter_more (is_far n rank cut) nodes _ c.loop-v.v-index 0 v c.loop-v-test.true refl tests.1 c.loop-v.invariant.1)
     ]
 
-pub returns-then-len-eq1-clause-none : goal.returns-then-len-eq1-clause-none
-returns-then-len-eq1-clause-none c =
+pub returns-then-len-eq-ALONE-clause-none : goal.returns-then-len-eq-ALONE-clause-none
+returns-then-len-eq-ALONE-clause-none c =
     rest_is c.args.g.now c.args.nodes.now c.args.cut c.if-nodes-cut.start c.deref.result.now _ _ _ c.nodes-n.ensures.graph c.requires.set c.requires.node
     (λ v. ap (λ xs. mark_of xs v) c.deref.ensures.value ∙ c.in_ok-free.ensures.marks v) c.in_ok-found.ensures
     (other_first c.args.nodes.now c.args.cut c.if-nodes-cut.start c.requires.set.ascending c.requires.two
     (elim c.if-nodes-cut.branch [ then-nodes-cut w ↦ inl (w.start-is, w.if-nodes-cut.true) | else-nodes-cut w ↦ inr (w.start-is, w.if-nodes-cut.false) ]))
-    c.nodes-n.result c.loop-v.v-index c.loop-v.far.items c.nodes-n.ensures.nodes c.loop-v-test.false c.loop-v.invariant.1 (omega (arith, c.len.ensures, c.if-len-eq1.true))
+    c.nodes-n.result c.loop-v.v-index c.loop-v.far.items c.nodes-n.ensures.nodes c.loop-v-test.false c.loop-v.invariant.1 (omega (arith, c.len.ensures, c.if-len-eq-ALONE.true))
 
 pub returns-clause-sides : goal.returns-clause-sides
 returns-clause-sides c =
@@ -65,4 +65,4 @@ returns-clause-sides c =
     (other_first c.args.nodes.now c.args.cut c.if-nodes-cut.start c.requires.set.ascending c.requires.two
     (elim c.if-nodes-cut.branch [ then-nodes-cut w ↦ inl (w.start-is, w.if-nodes-cut.true) | else-nodes-cut w ↦ inr (w.start-is, w.if-nodes-cut.false) ]))
     c.nodes-n.result c.loop-v.v-index c.loop-v.near.items c.loop-v.far.items c.nodes-n.ensures.nodes c.loop-v-test.false c.loop-v.invariant.0 c.loop-v.invariant.1
-    (λ one. c.if-len-eq1.false (omega (arith, c.len.ensures, one)))
+    (λ one. c.if-len-eq-ALONE.false (omega (arith, c.len.ensures, one)))

@@ -19,7 +19,7 @@ pub returns-in-Few-clause-verdict : goal.returns-in-Few-clause-verdict
 returns-in-Few-clause-verdict c =
     let node : c.loop-v.v < c.args.g.now.nodes = omega (arith, c.loop-v-test.true, c.nodes-n.ensures.nodes) in
     let cut = rw c.in-Few.is at c.in_ok-cut.ensures in
-    found_bad _ _ _ cut.0 _ c.nodes-n.ensures.graph c.requires.connected c.requires.three node c.loop-v.invariant cut.1 cut.2 cut.3
+    found_bad _ _ _ cut.0 _ c.nodes-n.ensures.graph c.requires.connected c.requires.three node c.loop-v.invariant cut.1 cut.2 cut.3 c.as_slice-ascending.ensures.ascending
 
 pub returns-in-Few-clause-extended : goal.returns-in-Few-clause-extended
 returns-in-Few-clause-extended c = found_parts c.args.g.now c.args.m.now _ c.nodes-n.ensures.graph c.requires.connected c.requires.three c.requires.nodes (returns-in-Few-clause-verdict c)

@@ -2,7 +2,7 @@ use Rattle.std.proofs.Common.{◌<◌, [], arith, length}
 use Rattle.tomo_base.specs.Sets.{has}
 use Rattle.mmp_place.proofs.Gathering.{fill_large_more, fill_large_past}
 use Rattle.mmp_place.proofs.rule.fill_large.Goals as goal
-use Rattle.mmp_place.proofs.rule.fill_large.Goals.{then-len-gt2+in_ok-fill, else-len-gt2}
+use Rattle.mmp_place.proofs.rule.fill_large.Goals.{then-len-gt-SMALL+in_ok-fill, else-len-gt-SMALL}
 
 pub fill-requires : goal.fill-requires
 fill-requires c = rw c.at-set.ensures (c.requires c.loop-i.i [] (omega (arith, c.loop-i-test.true, c.len-i-end.ensures))).below
@@ -16,7 +16,7 @@ loop-i-preserved c =
     let m = has c.args.m.now in
     let w = has c.loop-i.m in
     let l : i < length sets = omega (arith, c.loop-i-test.true, c.len-i-end.ensures) in
-    elim c.if-len-gt2.branch [
-      | then-len-gt2+in_ok-fill s ↦ rw s.m-is (fill_large_more g sets i x m w (has s.fill.new.m) l c.at-set.ensures (omega (arith, s.if-len-gt2.true, c.len.ensures.len)) c.loop-i.invariant s.in_ok-fill.ensures)
-      | else-len-gt2 s ↦ rw s.m-is (fill_large_past g sets i x m w l c.at-set.ensures (omega (arith, s.if-len-gt2.false, c.len.ensures.len)) c.loop-i.invariant)
+    elim c.if-len-gt-SMALL.branch [
+      | then-len-gt-SMALL+in_ok-fill s ↦ rw s.m-is (fill_large_more g sets i x m w (has s.fill.new.m) l c.at-set.ensures (omega (arith, s.if-len-gt-SMALL.true, c.len.ensures.len)) c.loop-i.invariant s.in_ok-fill.ensures)
+      | else-len-gt-SMALL s ↦ rw s.m-is (fill_large_past g sets i x m w l c.at-set.ensures (omega (arith, s.if-len-gt-SMALL.false, c.len.ensures.len)) c.loop-i.invariant)
     ]

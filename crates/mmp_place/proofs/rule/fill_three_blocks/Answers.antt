@@ -5,7 +5,7 @@ use Rattle.tomo_base.specs.Blocks.{IsBlock}
 use Rattle.tomo_base.specs.SetLists.{IsSetBelow}
 use Rattle.mmp_place.proofs.Gathering.{fills_past, fills_more, fills_same}
 use Rattle.mmp_place.proofs.rule.fill_three_blocks.Goals as goal
-use Rattle.mmp_place.proofs.rule.fill_three_blocks.Goals.{then-len-gt2+in_ok-three_blocks+in_ok-fill_each, else-len-gt2}
+use Rattle.mmp_place.proofs.rule.fill_three_blocks.Goals.{then-len-gt-SMALL+in_ok-three_blocks+in_ok-fill_each, else-len-gt-SMALL}
 
 pub three_blocks_in-requires-clause-nodes : goal.three_blocks_in-requires-clause-nodes
 three_blocks_in-requires-clause-nodes c = rw c.at-block.ensures (c.requires.nodes c.loop-i.i [] (omega (arith, c.loop-i-test.true, c.len-i-end.ensures)))
@@ -22,9 +22,9 @@ loop-i-preserved c =
     let is_block : IsBlock g (has b) = rw c.at-block.ensures (c.requires.blocks i [] l) in
     let below : IsSetBelow g.nodes b = rw c.at-block.ensures (c.requires.nodes i [] l) in
     let lists : take i bs ++ b ∷ [] ≡ take (i + 1) bs = ap (λ y. take i bs ++ y ∷ []) c.at-block.ensures ∙ sym (take_more bs i [] l) in
-    elim c.if-len-gt2.branch [
-      | then-len-gt2+in_ok-three_blocks+in_ok-fill_each s ↦ rw s.m-is (fills_same g (take i bs ++ b ∷ []) (take (i + 1) bs) m (has s.fill_each.new.m) lists
+    elim c.if-len-gt-SMALL.branch [
+      | then-len-gt-SMALL+in_ok-three_blocks+in_ok-fill_each s ↦ rw s.m-is (fills_same g (take i bs ++ b ∷ []) (take (i + 1) bs) m (has s.fill_each.new.m) lists
           (fills_more g (take i bs) b s.in_ok-three_blocks.three_blocks m w (has s.fill_each.new.m) is_block s.in_ok-three_blocks.ensures s.in_ok-fill_each.ensures c.loop-i.invariant))
-      | else-len-gt2 s ↦ rw s.m-is (fills_same g (take i bs ++ b ∷ []) (take (i + 1) bs) m w lists
-          (fills_past g (take i bs) b m w below (omega (arith, s.if-len-gt2.false, c.len.ensures.len)) c.loop-i.invariant))
+      | else-len-gt-SMALL s ↦ rw s.m-is (fills_same g (take i bs ++ b ∷ []) (take (i + 1) bs) m w lists
+          (fills_past g (take i bs) b m w below (omega (arith, s.if-len-gt-SMALL.false, c.len.ensures.len)) c.loop-i.invariant))
     ]

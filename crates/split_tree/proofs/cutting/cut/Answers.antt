@@ -1,9 +1,7 @@
-use Rattle.std.proofs.Common.{◌≡◌, ℕ, ◌<◌, ◌≤◌, ◌∙◌, ◌||◌, ◌==◌, length, true, refl, ap, arith, sym, subst, min, max}
-use Rattle.tomo_base.specs.Sets.{has, minus}
-use Rattle.tomo_base.specs.Search.{mark_of}
+use Rattle.std.proofs.Common.{◌<◌, arith}
+use Rattle.tomo_base.specs.Sets.{has}
 use Rattle.tomo_base.proofs.Ascending.{All-from_has}
 use Rattle.tomo_base.proofs.Parting.{without_two-in}
-use Rattle.split_tree.specs.Stages.{IsPairCut}
 use Rattle.split_tree.proofs.Halved.{side_of, halved}
 use Rattle.split_tree.proofs.Sounding.{piece_below}
 use Rattle.split_tree.proofs.cutting.cut.Goals as goal

@@ -1,5 +1,5 @@
-use Rattle.std.proofs.Common.{◌∙◌, ap, subst, sym}
-use Rattle.tomo_base.specs.Table.{in_order, IsFirstFault}
+use Rattle.std.proofs.Common.{◌∙◌, ap}
+use Rattle.tomo_base.specs.Table.{in_order}
 use Rattle.tomo_base.proofs.Graphs.{no_fault, graph_is}
 use Rattle.std.proofs.Common.{map}
 use Rattle.split_tree.proofs.cutting.graph_of.Goals as goal

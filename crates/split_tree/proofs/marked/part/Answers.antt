@@ -1,4 +1,4 @@
-use Rattle.std.proofs.Common.{◌≡◌, ℕ, ◌<◌, ◌∙◌, length, refl, ap, arith, sym, subst, not, true, false}
+use Rattle.std.proofs.Common.{◌∙◌, ap, sym}
 use Rattle.std.specs.List.{filter}
 use Rattle.tomo_base.specs.Search.{mark_of}
 use Rattle.split_tree.specs.Parts.{is_inside}

@@ -1,4 +1,4 @@
-use Rattle.std.proofs.Common.{◌≡◌, ℕ, ◌<◌, ◌∙◌, length, false, replicate, refl, ap, arith, length-set}
+use Rattle.std.proofs.Common.{◌∙◌, length, false, refl, ap, arith, length-set}
 use Rattle.std.proofs.lemmas.List.{length-replicate, take_all}
 use Rattle.tomo_base.specs.Search.{mark_of}
 use Rattle.tomo_base.specs.Sets.{has}

@@ -1,4 +1,4 @@
-use Rattle.std.proofs.Common.{◌≡◌, ℕ, ◌<◌, ◌∙◌, length, refl, ap, arith, length-set}
+use Rattle.std.proofs.Common.{arith}
 use Rattle.tomo_base.specs.Sets.{has}
 use Rattle.split_tree.proofs.Marking.{marks_two}
 use Rattle.split_tree.proofs.marks.marks_with.Goals as goal

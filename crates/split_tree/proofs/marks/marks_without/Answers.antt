@@ -1,4 +1,4 @@
-use Rattle.std.proofs.Common.{◌≡◌, ℕ, ◌<◌, ◌∙◌, length, refl, ap, arith, length-set}
+use Rattle.std.proofs.Common.{◌∙◌, refl, ap, arith, length-set}
 use Rattle.std.proofs.lemmas.List.{take_all}
 use Rattle.tomo_base.specs.Sets.{has, minus}
 use Rattle.split_tree.proofs.Marking.{minus_none, marks_less}

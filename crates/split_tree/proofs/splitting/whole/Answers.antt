@@ -1,4 +1,4 @@
-use Rattle.std.proofs.Common.{◌≡◌, ◌<◌, ◌∙◌, ap, length, arith}
+use Rattle.std.proofs.Common.{◌∙◌, ap}
 use Rattle.tomo_base.specs.Sets.{has}
 use Rattle.split_tree.proofs.MarkedLinks.{links_below}
 use Rattle.split_tree.proofs.Topmost.{top_piece_of, top_stage}

@@ -1,6 +1,6 @@
 -- The new tree has its facts: its parts are the two trees.
 use Rattle.std.proofs.Common.{subst, sym, ◌≡◌, ◌+◌, [], ◌∷◌, arith}
-use Rattle.split_tree.specs.Trees.{Facts, depth_of, piece_of}
+use Rattle.split_tree.specs.Trees.{Facts, depth_of}
 use Rattle.split_tree.specs.declared.tree.Tree.{Split}
 use Rattle.split_tree.proofs.tree.joined.Goals as goal
 

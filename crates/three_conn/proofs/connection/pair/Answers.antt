@@ -22,4 +22,7 @@ pub returns-clause-below : goal.returns-clause-below
 returns-clause-below c = (two_added c.args.n c.args.c c.args.d c.if-c-n.set c.if-d-n.set (first_added c) (second_added c)).1
 
 pub returns-clause-nodes : goal.returns-clause-nodes
-returns-clause-nodes c = (two_added c.args.n c.args.c c.args.d c.if-c-n.set c.if-d-n.set (first_added c) (second_added c)).2
+returns-clause-nodes c = (two_added c.args.n c.args.c c.args.d c.if-c-n.set c.if-d-n.set (first_added c) (second_added c)).3
+
+pub returns-clause-ascending : goal.returns-clause-ascending
+returns-clause-ascending c = (two_added c.args.n c.args.c c.args.d c.if-c-n.set c.if-d-n.set (first_added c) (second_added c)).2

@@ -23,7 +23,6 @@ loop-x-preserved-in-More c =
       known = record {
         marks = length-set held u true ∙ known.marks;
         held = held_same c.args.g.now (mark_of c.args.nodes.now) (with_one (mark_of held) u) _ c.loop-x.known.root (λ v. mark_more held u v in_held) (step.2 c.loop-x.known.root (mark_of held) known.held c.loop-x.invariant.rest);
-        checked = known.checked;
       };
       root = c.loop-x.invariant.root;
       size = length-set free u false ∙ c.loop-x.invariant.size;

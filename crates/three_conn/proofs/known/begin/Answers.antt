@@ -39,5 +39,4 @@ returns-clause-known c =
               subst (λ z. mark_of c.loop-hop.held.items z ≡ true) (at.2 e) (c.loop-hop.invariant.near at.0 e (omega (arith, at.1, c.loop-hop-test.false)))
         ],
       ));
-      checked = λ v l. absurd (omega (arith, l));
     }

@@ -7,7 +7,5 @@ mod flows;
 mod growth;
 pub mod laws;
 mod meeting;
-#[cfg(test)]
-mod tests;
 
 pub use crossing::recipe;

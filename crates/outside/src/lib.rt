@@ -15,6 +15,3 @@ pub use memory_sink::MemSink;
 pub use shelf::{Got, Shelf, ShelfFault};
 pub use sink::{Sink, SinkFault};
 pub use std_sink::StdSink;
-
-#[cfg(test)]
-mod tests;

@@ -11,8 +11,8 @@ use simple_path::{PathPool, Recipes, Term};
 use std::alloc::Global;
 use tomo_base::{Link, NoMemory, Words};
 
-// Puts the numbers, joined by single spaces, into an empty text.
-fn numbers_joined(numbers: &[u32], text: &mut Vec<u8>) -> Result<(), NoMemory>
+/// Puts the numbers, joined by single spaces, into an empty text. After want of memory the text may have a part of them.
+pub fn numbers_joined(numbers: &[u32], text: &mut Vec<u8>) -> Result<(), NoMemory>
     requires { text.old.items ≡ [] }
     ensures { OnOk result (text.new.items ≡ numbers_text numbers.now) }
 {
@@ -51,8 +51,8 @@ fn terms_joined(terms: &[Term], text: &mut Vec<u8>) -> Result<(), NoMemory>
     Ok(())
 }
 
-// Adds a row with these fields.
-fn add_row(rows: &mut Rows, fields: &[&[u8]]) -> Result<(), NoMemory>
+/// Adds a row with these fields, one or more. After want of memory the rows may have a part of it.
+pub fn add_row(rows: &mut Rows, fields: &[&[u8]]) -> Result<(), NoMemory>
     requires none { rows.old.current ≡ [] }
     requires some { 0 < length fields.now }
     requires few { length fields.now < 2 ^ 32 }
@@ -66,8 +66,8 @@ fn add_row(rows: &mut Rows, fields: &[&[u8]]) -> Result<(), NoMemory>
     rows.close()
 }
 
-// Adds a row of a kind with its number and one more field.
-fn add_numbered(rows: &mut Rows, word: &str, i: u32, rest: &[u8]) -> Result<(), NoMemory>
+/// Adds a row of a kind with its number and one more field. After want of memory the rows may have a part of it.
+pub fn add_numbered(rows: &mut Rows, word: &str, i: u32, rest: &[u8]) -> Result<(), NoMemory>
     requires none { rows.old.current ≡ [] }
     requires room { length rows.old.closed + 1 < 2 ^ 32 }
     ensures { OnOk result (AddsRows rows.old rows.new ((word.now ∷ decimal i ∷ rest.now ∷ []) ∷ [])) }
@@ -76,8 +76,14 @@ fn add_numbered(rows: &mut Rows, word: &str, i: u32, rest: &[u8]) -> Result<(), 
     add_row(rows, &[word.as_bytes(), number.format(i).as_bytes(), rest])
 }
 
-// Adds a row of a kind with its number, a further number, and one more field.
-fn add_counted(rows: &mut Rows, word: &str, i: u32, count: u32, rest: &[u8]) -> Result<(), NoMemory>
+/// Adds a row of a kind with its number, a further number, and one more field. After want of memory the rows may have a part of it.
+pub fn add_counted(
+    rows: &mut Rows,
+    word: &str,
+    i: u32,
+    count: u32,
+    rest: &[u8],
+) -> Result<(), NoMemory>
     requires none { rows.old.current ≡ [] }
     requires room { length rows.old.closed + 1 < 2 ^ 32 }
     ensures { OnOk result (AddsRows rows.old rows.new ((word.now ∷ decimal i ∷ decimal count ∷ rest.now ∷ []) ∷ [])) }

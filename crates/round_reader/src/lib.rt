@@ -5,8 +5,6 @@ mod faults;
 mod reading;
 mod rounds;
 mod sums;
-#[cfg(test)]
-mod tests;
 
 pub use faults::RoundFault;
 pub use reading::read_rounds;

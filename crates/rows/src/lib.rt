@@ -12,6 +12,3 @@ pub use list::Rows;
 pub use printing::print_rows;
 pub use reading::read_rows;
 pub use trim::trimmed;
-
-#[cfg(test)]
-mod tests;

@@ -17,6 +17,3 @@ pub use node_sets::NodeSets;
 pub use pocket::{Pocket, Pockets, need};
 pub use search::{Swept, first_apart, sweep};
 pub use words::Words;
-
-#[cfg(test)]
-mod tests;

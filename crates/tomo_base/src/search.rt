@@ -75,7 +75,7 @@ fn look(g: &Graph, free: &[bool], head: usize, found: &mut Swept) -> Result<(), 
     Ok(())
 }
 
-/// Searches from the seeds over the free nodes, breadth first: reaches exactly the free nodes to which walks over free nodes lead from a seed.
+/// Searches from the seeds over the free nodes: reaches exactly the free nodes to which walks over free nodes lead from a seed.
 /// The seeds are different free nodes. Time is linear in nodes and links.
 pub fn sweep(alloc: Global, g: &Graph, free: &[bool], seeds: &[u32]) -> Result<Swept, NoMemory>
     requires marks { length free.now ≡ g.now.nodes }

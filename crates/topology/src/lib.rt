@@ -15,6 +15,3 @@ pub use fields::as_name;
 pub use monitors::read_monitors;
 pub use naming::nth_name;
 pub use topology::{Topology, read_topology};
-
-#[cfg(test)]
-mod tests;

@@ -4,7 +4,7 @@ ghost use Rattle.tomo_base.specs.Sets.{has};
 ghost use Rattle.tomo_base.specs.Identify.{Identifies};
 ghost use Rattle.tomo_base.specs.BadParts.{IsCutOff};
 
-use crate::recipe;
+use cross_links::recipe;
 use simple_path::{PathPool, Recipe};
 use std::alloc::Global;
 use std::test::Fail;

@@ -1,4 +1,4 @@
-use crate::{FileShelf, Got, MemShelf, MemSink, Shelf, ShelfFault, Sink, SinkFault, StdSink};
+use outside::{FileShelf, Got, MemShelf, MemSink, Shelf, ShelfFault, Sink, SinkFault, StdSink};
 use std::alloc::Global;
 use std::cell::RefCell;
 use std::fmt::Display;
@@ -21,21 +21,12 @@ fn read_of<S: Shelf>(
 fn a_file_is_read_whole_up_to_its_length(rt: HostRuntime) -> Result<(), Fail> {
     let alloc = rt.alloc();
     let mut shelf = FileShelf::new(alloc, &rt);
-    assert_eq!(rt;
-        read_of(alloc, &mut shelf, 20_000, b""),
-        (Err(ShelfFault::Failed), true)
-    );
+    assert!(rt; read_of(alloc, &mut shelf, 20_000, b"") == (Err(ShelfFault::Failed), true));
     // longer than what one turn takes
     let content = vec![in alloc; b'x'; 20_000]?;
     fs::write(&rt, "names", content.as_slice())?;
-    assert_eq!(rt;
-        read_of(alloc, &mut shelf, 19_999, b""),
-        (Ok(Got::TooLong), true)
-    );
-    assert_eq!(rt;
-        read_of(alloc, &mut shelf, 20_000, &content),
-        (Ok(Got::Whole), true)
-    );
+    assert!(rt; read_of(alloc, &mut shelf, 19_999, b"") == (Ok(Got::TooLong), true));
+    assert!(rt; read_of(alloc, &mut shelf, 20_000, &content) == (Ok(Got::Whole), true));
     fs::remove_file(&rt, "names")?;
     Ok(())
 }
@@ -76,9 +67,9 @@ fn a_printer_is_handed_each_piece(rt: HostRuntime) -> Result<(), Fail> {
         bytes: RefCell::new(Vec::new(rt.alloc())),
     };
     let mut sink = StdSink::new(&page);
-    assert_eq!(rt; sink.write(b"abcd"), Ok(3));
-    assert_eq!(rt; sink.write(b"def"), Ok(2));
-    assert_eq!(rt; sink.write(b"f"), Err(SinkFault));
+    assert!(rt; sink.write(b"abcd") == Ok(3));
+    assert!(rt; sink.write(b"def") == Ok(2));
+    assert!(rt; sink.write(b"f") == Err(SinkFault));
     assert!(rt;
         matches!(page.bytes.try_borrow(), Ok(bytes) if bytes.as_slice() == b"abcde".as_slice())
     );
@@ -93,25 +84,16 @@ fn devices_in_memory_do_as_they_are_set(rt: HostRuntime) -> Result<(), Fail> {
     shelf.put("names", b"old")?;
     shelf.put("names", b"news")?;
     shelf.fail_at(2)?;
-    assert_eq!(rt;
-        read_of(alloc, &mut shelf, 3, b""),
-        (Ok(Got::TooLong), true)
-    );
-    assert_eq!(rt;
-        read_of(alloc, &mut shelf, 4, b""),
-        (Err(ShelfFault::Failed), true)
-    );
-    assert_eq!(rt;
-        read_of(alloc, &mut shelf, 4, b"news"),
-        (Ok(Got::Whole), true)
-    );
+    assert!(rt; read_of(alloc, &mut shelf, 3, b"") == (Ok(Got::TooLong), true));
+    assert!(rt; read_of(alloc, &mut shelf, 4, b"") == (Err(ShelfFault::Failed), true));
+    assert!(rt; read_of(alloc, &mut shelf, 4, b"news") == (Ok(Got::Whole), true));
 
     let mut sink = MemSink::new(alloc, 5, 3)?;
     sink.fail_at(2)?;
-    assert_eq!(rt; sink.write(b"abcd"), Ok(3));
-    assert_eq!(rt; sink.write(b"d"), Err(SinkFault));
-    assert_eq!(rt; sink.write(b"def"), Ok(2));
-    assert_eq!(rt; sink.write(b"f"), Err(SinkFault));
-    assert_eq!(rt; sink.bytes(), b"abcde".as_slice());
+    assert!(rt; sink.write(b"abcd") == Ok(3));
+    assert!(rt; sink.write(b"d") == Err(SinkFault));
+    assert!(rt; sink.write(b"def") == Ok(2));
+    assert!(rt; sink.write(b"f") == Err(SinkFault));
+    assert!(rt; sink.bytes() == b"abcde".as_slice());
     Ok(())
 }

@@ -1,7 +1,7 @@
 // Rounds are read where memory is ample.
 ghost use Rattle.std.specs.Prelude.{◌<◌, ◌^◌, length};
 
-use crate::{RoundFault, Rounds, read_rounds};
+use round_reader::{RoundFault, Rounds, read_rounds};
 use rows::read_rows;
 use std::alloc::Global;
 use std::test::Fail;
@@ -20,9 +20,9 @@ fn sums_are_read(rt: HostRuntime) -> Result<(), Fail> {
         rt.alloc(),
         b"5,6,7\n 0\t,00000000000000000001,1000000000000000\n",
     )??;
-    assert_eq!(rt; rounds.len(), 2);
-    assert_eq!(rt; rounds.round(0), [5, 6, 7].as_slice());
-    assert_eq!(rt; rounds.round(1), [0, 1, 1_000_000_000_000_000].as_slice());
+    assert!(rt; rounds.len() == 2);
+    assert!(rt; rounds.round(0) == [5, 6, 7].as_slice());
+    assert!(rt; rounds.round(1) == [0, 1, 1_000_000_000_000_000].as_slice());
     Ok(())
 }
 

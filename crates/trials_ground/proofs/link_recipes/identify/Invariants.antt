@@ -1,7 +1,7 @@
 use Rattle.std.proofs.Common.{◌≡◌, ◌<◌, ◌≤◌, ◌⊎◌, ℕ, Bool, true}
 use Rattle.tomo_base.specs.Sets.{has}
 use Rattle.tomo_base.specs.BadParts.{IsCutOff}
-use Rattle.cross_links.proofs.tests.identify.Given as goal
+use Rattle.trials_ground.proofs.link_recipes.identify.Given as goal
 
 -- each node before v is a monitor, or at least three nodes cut it off from the monitors
 abbrev pub invariant-loop-v : goal.invariant-loop-v

@@ -4,8 +4,8 @@ use Rattle.tomo_base.specs.Sets.{has, size, outside}
 use Rattle.tomo_base.specs.BadParts.{IsCutOff}
 use Rattle.ident_laws.proofs.Boundary.{no_bad_part-from}
 use Rattle.cross_links.proofs.Identifying.{no_bad_part_identifies}
-use Rattle.cross_links.proofs.tests.identify.Goals.{else-not-has-via-then-not-has+in_ok-has_fan+else-not-branch, else-not-has-via-else-not-has}
-use Rattle.cross_links.proofs.tests.identify.Goals as goal
+use Rattle.trials_ground.proofs.link_recipes.identify.Goals.{else-not-has-via-then-not-has+in_ok-has_fan+else-not-branch, else-not-has-via-else-not-has}
+use Rattle.trials_ground.proofs.link_recipes.identify.Goals as goal
 
 pub loop-v-preserved : goal.loop-v-preserved
 loop-v-preserved c = λ u l. elim (cases_eq u c.loop-v.v) [

@@ -1,5 +1,5 @@
 use Rattle.std.proofs.Common.{◌≡◌}
-use Rattle.unit_flow.proofs.tests.widen_all.Given as goal
+use Rattle.trials_ground.proofs.flows.widen_all.Given as goal
 
 -- the flow is one over the graph
 abbrev pub invariant-loop : goal.invariant-loop

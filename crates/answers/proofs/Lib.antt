@@ -1,3 +1,5 @@
 pub mod NodeNames
 pub mod TermRows
 pub mod Solved
+pub mod ThreeBlocks
+pub mod Telling

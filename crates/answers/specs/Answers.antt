@@ -7,11 +7,13 @@ use Rattle.answers.specs.Planning.{Plans, PlansFor}
 use Rattle.answers.specs.Linking.{TellsLink}
 use Rattle.answers.specs.Reporting.{Reports}
 use Rattle.answers.specs.Rounds.{Solves}
+use Rattle.answers.specs.Components.{TellsParts}
+use Rattle.answers.specs.Growing.{TellsTrees}
 use Rattle.answers.specs.Drilling.{fit, Drills}
 use Rattle.answers.specs.declared.status.Status.{Status}
 use Rattle.answers.specs.declared.placed.Placed.{Placed}
 use Rattle.answers.specs.declared.tasks.TopologyTask.{TopologyTask}
-use Rattle.answers.specs.declared.tasks.TopologyTask.TheVariants.{Plan}
+use Rattle.answers.specs.declared.tasks.TopologyTask.TheVariants.{Plan, Components, Trees}
 use Rattle.answers.specs.declared.tasks.MonitorTask.{MonitorTask}
 use Rattle.answers.specs.declared.tasks.MonitorTask.TheVariants.{Judge, Paths, Link}
 use Rattle.answers.specs.declared.inputs.FileInputs.TheVariants.{OnTopology, OnMonitors, Check, Solve}
@@ -21,6 +23,8 @@ use Rattle.answers.specs.declared.inputs.Inputs.TheVariants.{OnFiles, Drill}
 -- of a topology alone
 abbrev pub TopologyAnswers : TopologyTask → Topo → Status → List Row → Type 0
 TopologyAnswers Plan t status rows = Plans t status rows
+TopologyAnswers Components t status rows = TellsParts t status rows
+TopologyAnswers Trees t status rows = TellsTrees t status rows
 
 -- of a topology and monitors, for two further words
 abbrev pub MonitorAnswers : MonitorTask → Placed → List ℕ → List ℕ → Status → List Row → Type 0

@@ -7,4 +7,6 @@ pub mod Linking
 pub mod Reporting
 pub mod Rounds
 pub mod Drilling
+pub mod Components
+pub mod Growing
 pub mod Answers

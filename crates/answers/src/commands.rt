@@ -3,7 +3,9 @@ ghost use Rattle.std.specs.Prelude.{IfOk};
 ghost use Rattle.answers.specs.Answers.{AreFit, Answers, TopologyAnswers, MonitorAnswers};
 
 use crate::answer::Answer;
+use crate::components::tell_components;
 use crate::drilling::tell_drill;
+use crate::growing::tell_trees;
 use crate::inputs::{FileInputs, Inputs};
 use crate::judging::judge_monitors;
 use crate::linking::tell_link;
@@ -26,6 +28,8 @@ fn answer_on_topology(
 {
     match task {
         TopologyTask::Plan => plan(alloc, topology),
+        TopologyTask::Components => tell_components(alloc, topology),
+        TopologyTask::Trees => tell_trees(alloc, topology),
     }
 }
 

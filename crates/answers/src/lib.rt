@@ -4,12 +4,15 @@
 mod answer;
 mod checked;
 mod commands;
+mod components;
 mod drilling;
 mod file_kind;
+mod growing;
 mod inputs;
 mod judging;
 mod linking;
 mod naming;
+mod parts;
 mod placed;
 mod planning;
 mod refusal;

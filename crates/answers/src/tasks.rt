@@ -4,6 +4,8 @@
 #[derive(Clone, Copy, Debug, PartialEq, Eq)]
 pub enum TopologyTask {
     Plan,
+    Components,
+    Trees,
 }
 
 /// What is done with a topology and monitors.

@@ -5,3 +5,4 @@ pub mod Ending
 pub mod Taking
 pub mod Numerals
 pub mod Retaking
+pub mod Answered

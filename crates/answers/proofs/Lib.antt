@@ -1,3 +1,4 @@
 pub mod NodeNames
 pub mod TermRows
 pub mod Solved
+pub mod NoPath

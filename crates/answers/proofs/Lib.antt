@@ -3,3 +3,4 @@ pub mod TermRows
 pub mod Solved
 pub mod ThreeBlocks
 pub mod Telling
+pub mod NoPath

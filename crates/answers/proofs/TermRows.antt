@@ -10,7 +10,7 @@ use Rattle.simple_path.specs.declared.recipe.Term.{Term}
 use Rattle.simple_path.specs.Terms.{path_terms}
 use Rattle.simple_path.specs.Pools.{nodes_in}
 use Rattle.rows.specs.Rows.{RowList}
-use Rattle.plan_form.specs.Parts.{PlanParts}
+use Rattle.plan_form.specs.Parts.{PlanParts, IsCoefficient}
 use Rattle.plan_form.specs.Order.{path_cmp}
 use Rattle.plan_form.specs.Good.{EndsAscend}
 use Rattle.planner.specs.Crossed.{IsCrossPlanFor}
@@ -32,6 +32,7 @@ link_recipe given g m p i planned l =
     let size : length (path_terms p.paths ts) ≡ length ts = ap (λ xs. length xs) each ∙ length-map ts (with_path p.paths) in
     record {
       few = omega (arith, size, planned.few_terms i l);
+      coefficients = rw each (All-map (λ (t : ℤ × List ℕ). IsCoefficient t.0) (with_path p.paths) ts (λ k d lt. ((planned.formed.recipes i [] l).2 k d lt).0));
       paths = rw each (All-map (λ (t : ℤ × List ℕ). IsMonitorPath g (has m) t.1) (with_path p.paths) ts (λ k d lt. rw (← planned.monitors) (paths.each (get_or ts k d).path [] (one.names k d lt))));
       turned = rw each (All-map (λ (t : ℤ × List ℕ). EndsAscend t.1) (with_path p.paths) ts (λ k d lt. paths.turned (get_or ts k d).path [] (one.names k d lt)));
       ascending = rw each (λ a b e lt within.

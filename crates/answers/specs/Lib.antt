@@ -1,3 +1,4 @@
+pub mod Status
 pub mod OneProof
 pub mod FileKinds
 pub mod Refusals

@@ -9,6 +9,7 @@ use Rattle.tomo_base.specs.Sets.{has}
 use Rattle.tomo_base.specs.Identify.{Identifies, IsMonitorPath}
 use Rattle.rows.specs.Rows.{Row}
 use Rattle.topology.specs.Topology.{Topo}
+use Rattle.plan_form.specs.Parts.{IsCoefficient}
 use Rattle.plan_form.specs.Order.{path_cmp}
 use Rattle.plan_form.specs.Good.{EndsAscend}
 use Rattle.answers.specs.Refusals.{refused}
@@ -20,9 +21,10 @@ use Rattle.answers.specs.declared.status.Status.TheVariants.{Done, BadInput}
 abbrev pub term_row : List (List ℕ) → ℤ × List ℕ → Row
 term_row names t = codes "term" ∷ signed_decimal t.0 ∷ map (λ v. slice_index_or names v []) t.1
 
--- a recipe of link i over at most four monitor paths, each with its lower end first, in lexicographic order
+-- a recipe of link i over at most four monitor paths, each with its lower end first, in lexicographic order; no coefficient is 0
 pub record IsLinkRecipe (g : Network) (m : ℕ → Bool) (i : ℕ) (terms : List (ℤ × List ℕ)) : Type 0 where
   pub few : length terms ≤ 4
+  pub coefficients : All (λ t. IsCoefficient t.0) terms
   pub paths : All (λ t. IsMonitorPath g m t.1) terms
   pub turned : All (λ t. EndsAscend t.1) terms
   pub ascending : AllPairs (λ s t. path_cmp s.1 t.1 ≡ Less) terms

@@ -1,5 +1,5 @@
 -- What is printed of rounds of sums.
-use Rattle.std.specs.Prelude.{ℕ, ◌≡◌, ◌==◌, if◌then◌else◌, List, [], ◌∷◌, ◌++◌, map, length, All, codes, decimal, slice_index_or}
+use Rattle.std.specs.Prelude.{ℕ, ◌≡◌, ◌≢◌, ◌==◌, if◌then◌else◌, List, [], ◌∷◌, ◌++◌, map, length, All, codes, decimal, slice_index_or}
 use Rattle.std.specs.List.{sum_by}
 use Rattle.tomo_base.specs.Network.{Network}
 use Rattle.tomo_base.specs.declared.graph.Link.{Link}
@@ -80,3 +80,11 @@ solution_status refused = if refused == 0 then statuses.Done else statuses.Negat
 abbrev pub Solves : Topo → PlanParts → List (List ℕ) → Status → List Row → Type 0
 Solves t p rounds status rows =
     (outcomes : List Outcome) × AreOutcomes t.graph p rounds outcomes × (status ≡ solution_status (refused_count outcomes)) × (rows ≡ solution_rows t outcomes)
+
+-- the row does not refuse the round with this number for the path with that one
+abbrev pub IsNoPathRow : List ℕ → List ℕ → Row → Type 0
+IsNoPathRow number place row = row ≢ codes "round" ∷ number ∷ codes "path" ∷ place ∷ []
+
+-- no row refuses a round for a path
+abbrev pub NameNoPath : List Row → Type 0
+NameNoPath rows = (number place : List ℕ) → All (IsNoPathRow number place) rows

@@ -1,5 +1,6 @@
 // The commands, each over all that it has read.
 ghost use Rattle.std.specs.Prelude.{IfOk};
+ghost use Rattle.answers.specs.Status.{IsAnswered};
 ghost use Rattle.answers.specs.Answers.{AreFit, Answers, TopologyAnswers, MonitorAnswers};
 
 use crate::answer::Answer;
@@ -24,7 +25,8 @@ fn answer_on_topology(
     task: TopologyTask,
     topology: &Topology,
 ) -> Result<Answer, NoMemory>
-    ensures { IfOk result (λ a. TopologyAnswers task topology.now a.status a.rows.closed) }
+    ensures answered { IfOk result (λ a. IsAnswered a.status) }
+    ensures answers { IfOk result (λ a. TopologyAnswers task topology.now a.status a.rows.closed) }
 {
     match task {
         TopologyTask::Plan => plan(alloc, topology),
@@ -41,7 +43,8 @@ fn answer_on_monitors(
     first: &str,
     second: &str,
 ) -> Result<Answer, NoMemory>
-    ensures { IfOk result (λ a. MonitorAnswers task placed.now first.now second.now a.status a.rows.closed) }
+    ensures answered { IfOk result (λ a. IsAnswered a.status) }
+    ensures answers { IfOk result (λ a. MonitorAnswers task placed.now first.now second.now a.status a.rows.closed) }
 {
     match task {
         MonitorTask::Judge => judge_monitors(alloc, placed),
@@ -59,7 +62,8 @@ pub fn answer_to(
     second: &str,
 ) -> Result<Answer, NoMemory>
     requires { AreFit inputs }
-    ensures { IfOk result (λ a. Answers inputs first.now second.now a.status a.rows.closed) }
+    ensures answered { IfOk result (λ a. IsAnswered a.status) }
+    ensures answers { IfOk result (λ a. Answers inputs first.now second.now a.status a.rows.closed) }
 {
     match inputs {
         Inputs::OnFiles(FileInputs::OnTopology(task, topology)) => {

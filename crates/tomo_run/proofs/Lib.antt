@@ -5,3 +5,5 @@ pub mod Ending
 pub mod Taking
 pub mod Numerals
 pub mod Retaking
+pub mod Reported
+pub mod Solving

@@ -4,7 +4,7 @@ use Rattle.std.specs.List.{starts_with}
 use Rattle.std.specs.Str.{bytes_eq}
 use Rattle.tomo_run.specs.declared.table.Command.{Command}
 use Rattle.tomo_run.specs.declared.table.Command.TheVariants.{OnFiles, Drill}
-use Rattle.answers.specs.declared.tasks.TopologyTask.TheVariants.{Plan}
+use Rattle.answers.specs.declared.tasks.TopologyTask.TheVariants.{Plan, Components, Trees}
 use Rattle.tomo_run.specs.declared.table.FileTask.{FileTask}
 use Rattle.tomo_run.specs.declared.table.FileTask.TheVariants.{OnTopology, OnMonitors, OnPlan}
 use Rattle.answers.specs.declared.tasks.MonitorTask.TheVariants.{Judge, Paths, Link}
@@ -15,17 +15,29 @@ use Rattle.tomo_run.specs.declared.table.Shape.{Shape}
 use Rattle.answers.specs.declared.drilling.DrillNumbers.{DrillNumbers}
 use Rattle.tomo_run.specs.Numbers.{numbers_of}
 
--- the word of each task over files
-abbrev pub task_of : List ℕ → Option FileTask
-task_of word =
-    if bytes_eq word (codes "plan") then Some (OnTopology Plan) else
-    (if bytes_eq word (codes "judge") then Some (OnMonitors Judge) else
-    (if bytes_eq word (codes "paths") then Some (OnMonitors Paths) else
-    (if bytes_eq word (codes "link") then Some (OnMonitors Link) else
-    (if bytes_eq word (codes "check") then Some (OnPlan Check) else
-    (if bytes_eq word (codes "solve") then Some (OnPlan Solve) else None)))))
+-- the table of commands over files: the word of each, and the task that it names
+abbrev pub table : List (List ℕ × FileTask)
+table =
+    (codes "plan", OnTopology Plan)
+    ∷ (codes "components", OnTopology Components)
+    ∷ (codes "trees", OnTopology Trees)
+    ∷ (codes "judge", OnMonitors Judge)
+    ∷ (codes "paths", OnMonitors Paths)
+    ∷ (codes "link", OnMonitors Link)
+    ∷ (codes "check", OnPlan Check)
+    ∷ (codes "solve", OnPlan Solve)
+    ∷ []
 
--- the files of each command, in the order in which they are asked for
+-- the task of the first line with the word
+abbrev pub task_in : List ℕ → List (List ℕ × FileTask) → Option FileTask
+task_in word [] = None
+task_in word (line ∷ lines) = if bytes_eq word line.0 then Some line.1 else task_in word lines
+
+-- the task that a word names
+abbrev pub task_of : List ℕ → Option FileTask
+task_of word = task_in word table
+
+-- the files of a command, in the order in which they are asked for: what its task stands on says which
 abbrev pub files_of : Command → List FileKind
 files_of (OnFiles (OnTopology task)) = TopologyFile ∷ []
 files_of (OnFiles (OnMonitors task)) = TopologyFile ∷ MonitorFile ∷ []
@@ -36,9 +48,9 @@ files_of (Drill numbers) = []
 -- how many words a command takes after its files
 abbrev pub other_words : Command → ℕ
 other_words (OnFiles (OnTopology task)) = 0
+other_words (OnFiles (OnMonitors Link)) = 2
 other_words (OnFiles (OnMonitors Judge)) = 0
 other_words (OnFiles (OnMonitors Paths)) = 0
-other_words (OnFiles (OnMonitors Link)) = 2
 other_words (OnFiles (OnPlan task)) = 0
 other_words (Drill numbers) = 3
 

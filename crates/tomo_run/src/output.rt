@@ -1,7 +1,7 @@
 // What is printed where the reading ended.
 ghost use Rattle.std.specs.Prelude.{◌≡◌, Some, IfOk, List};
 ghost use Rattle.rows.specs.Rows.{Row, text_of};
-ghost use Rattle.tomo_run.specs.Status.{IsAnswered};
+ghost use Rattle.answers.specs.Status.{IsAnswered};
 ghost use Rattle.tomo_run.specs.Table.{shape as shape_in, last_words};
 ghost use Rattle.tomo_run.specs.Machine.{EndIsFit};
 ghost use Rattle.tomo_run.specs.Ends.{Ends};
@@ -24,7 +24,8 @@ pub struct Output {
 fn answer_at(alloc: Global, words: &Words, shape: Shape, end: End) -> Result<Answer, NoMemory>
     requires shape { shape_in words.now ≡ Some shape }
     requires fit { EndIsFit end }
-    ensures { IfOk result (λ a. Ends (last_words words.now) end a.status a.rows.closed) }
+    ensures answered { IfOk result (λ a. IsAnswered a.status) }
+    ensures ends { IfOk result (λ a. Ends (last_words words.now) end a.status a.rows.closed) }
 {
     match end {
         End::Ready(inputs) => {

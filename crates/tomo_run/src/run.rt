@@ -3,11 +3,14 @@ ghost use Rattle.std.specs.Prelude.{◌≡◌, ◌≢◌, ◌++◌, None, IfSome
 ghost use Rattle.outside.specs.Causes.{Rose};
 ghost use Rattle.tomo_run.specs.Table.{shape, file_words};
 ghost use Rattle.tomo_run.specs.Status.{IsResult};
-ghost use Rattle.tomo_run.specs.Headline.{PrintedIsTaken};
+ghost use Rattle.tomo_run.specs.Headline.{PrintedIsTaken, PrintedIsReportedGood, PathsAreReportedGood, PrintedNamesNoPath};
 ghost use Rattle.tomo_run.specs.Run.{AddsFront, StopsAtRefusal, KnowsAll, Wrote};
 
 use crate::gather::gather;
-use crate::laws::a_printed_plan_is_taken;
+use crate::laws::{
+    a_printed_plan_is_reported_good, a_printed_plan_is_taken, a_printed_plan_names_no_path,
+    printed_paths_are_reported_good,
+};
 use crate::table::shape_of;
 use crate::output::output_of;
 use crate::write::write_all;
@@ -36,10 +39,20 @@ pub fn tomo<S: Shelf, K: Sink>(alloc: Global, words: &Words, shelf: &mut S, sink
     // A good plan that was printed is taken by `solve`, and never refused.
     ensures taken { PrintedIsTaken }
 
+    // A plan that was printed is reported good by `check`: that of `plan` with two equal numbers, that of `paths` with the bound 0.
+    ensures reported { PrintedIsReportedGood }
+    ensures paths_reported { PathsAreReportedGood }
+
+    // Over a plan that was printed `solve` refuses no round for a path.
+    ensures no_path { PrintedNamesNoPath }
+
     // What is written is that of a run.
     ensures wrote { Wrote (S.told shelf.old) words.now result (K.sure sink.old) (K.taken sink.old) (K.taken sink.new) }
 {
     a_printed_plan_is_taken();
+    a_printed_plan_is_reported_good();
+    printed_paths_are_reported_good();
+    a_printed_plan_names_no_path();
     let shape = match shape_of(words) {
         Some(shape) => shape,
         None => return Status::Usage,

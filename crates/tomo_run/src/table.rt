@@ -1,6 +1,6 @@
 // The table of commands: the words that each takes, and the shape of a command line.
 ghost use Rattle.std.specs.Prelude.{◌≡◌, ◌<◌, ◌≤◌, [], length, drop, Option, Some, slice_index_or};
-ghost use Rattle.tomo_run.specs.Table.{task_of, files_of, word_count, first_place, begins_option, no_options, shaped, drill_shape as shape_of_drill, shape, shape as shape_in, last_words};
+ghost use Rattle.tomo_run.specs.Table.{task_of, files_of, other_words as words_behind, first_place, begins_option, no_options, shaped, drill_shape as shape_of_drill, shape, shape as shape_in, last_words};
 ghost use Rattle.answers.specs.FileKinds.{limit};
 
 use crate::numbers::drill_numbers;
@@ -36,12 +36,14 @@ pub struct Shape {
     pub header: bool,
 }
 
-// The task over files that a word names.
+// The table of commands over files: the word of each, and the task that it names.
 fn named_task(word: &str) -> Option<FileTask>
     ensures { result ≡ task_of word.now }
 {
     match word {
         "plan" => Some(FileTask::OnTopology(TopologyTask::Plan)),
+        "components" => Some(FileTask::OnTopology(TopologyTask::Components)),
+        "trees" => Some(FileTask::OnTopology(TopologyTask::Trees)),
         "judge" => Some(FileTask::OnMonitors(MonitorTask::Judge)),
         "paths" => Some(FileTask::OnMonitors(MonitorTask::Paths)),
         "link" => Some(FileTask::OnMonitors(MonitorTask::Link)),
@@ -51,9 +53,10 @@ fn named_task(word: &str) -> Option<FileTask>
     }
 }
 
-// How many files a command reads.
+// How many files a command reads: what its task stands on says which.
 fn file_count(command: Command) -> u32
-    ensures { result ≡ length (files_of command) }
+    ensures count { result ≡ length (files_of command) }
+    ensures few { result ≤ 3 }
 {
     match command {
         Command::OnFiles(FileTask::OnTopology(_)) => 1,
@@ -64,16 +67,14 @@ fn file_count(command: Command) -> u32
     }
 }
 
-// How many words a command takes after its own word, and after the option.
-fn words_after(command: Command) -> u32
-    ensures { result ≡ word_count command }
+// How many words a command takes after its files.
+fn other_words(command: Command) -> u32
+    ensures count { result ≡ words_behind command }
+    ensures few { result ≤ 3 }
 {
     match command {
-        Command::OnFiles(FileTask::OnTopology(_)) => 1,
-        Command::OnFiles(FileTask::OnMonitors(MonitorTask::Link)) => 4,
-        Command::OnFiles(FileTask::OnMonitors(_)) => 2,
-        Command::OnFiles(FileTask::OnPlan(PlanTask::Check)) => 2,
-        Command::OnFiles(FileTask::OnPlan(PlanTask::Solve)) => 3,
+        Command::OnFiles(FileTask::OnMonitors(MonitorTask::Link)) => 2,
+        Command::OnFiles(_) => 0,
         Command::Drill(_) => 3,
     }
 }
@@ -131,7 +132,7 @@ fn topology_shape(words: &Words) -> Option<Shape>
     let shape = Shape { command, header };
     let first = shape.first();
     if first <= words.len()
-        && words.len() - first == words_after(command)
+        && words.len() - first == file_count(command) + other_words(command)
         && has_no_options(words, first)
     {
         Some(shape)

@@ -9,8 +9,6 @@ mod paths;
 mod pockets;
 mod recipes;
 mod report;
-#[cfg(test)]
-mod tests;
 
 pub use checking::check;
 pub use report::{Fault, Report};

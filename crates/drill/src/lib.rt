@@ -9,8 +9,6 @@ mod pairs;
 mod report;
 mod run;
 mod solving;
-#[cfg(test)]
-mod tests;
 
 pub use network::generate;
 pub use run::drill;

@@ -2,7 +2,5 @@
 #![tactic(auto)]
 
 mod lowest;
-#[cfg(test)]
-mod tests;
 
 pub use lowest::place;

@@ -10,6 +10,3 @@ mod paths;
 mod turns;
 
 pub use orders::{EarOrder, Step, order};
-
-#[cfg(test)]
-mod tests;

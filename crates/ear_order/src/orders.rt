@@ -44,11 +44,13 @@ impl Model for EarOrder {
 }
 
 impl EarOrder {
-    /// The order with its first ear.
+    /// The order with its first ear, from `r` to `t`. It costs at most as many turns as there are nodes, each a few searches of the graph
+    /// (Cheriyan and Maheshwari 1988).
     pub fn start(alloc: Global, g: &Graph, r: u32, t: u32, u: u32) -> Result<EarOrder, NoMemory>
         requires three { IsThreeConnected g.now }
         requires ends { AreEnds g.now r t u }
-        ensures { IfOk result (IsBegun g.now r t u) }
+        ensures begun { IfOk result (IsBegun g.now r t u) }
+        ensures order { IfOk result IsOrder }
     {
         let n = g.nodes();
         let mut old = vec![in alloc; false; n as usize]?;
@@ -68,7 +70,8 @@ impl EarOrder {
         })
     }
 
-    /// Adds an ear, or answers that all nodes stand in ears. After want of memory the order is as before.
+    /// Adds an ear, or answers that all nodes stand in ears. After want of memory the order is as before. It costs at most as many turns as
+    /// there are nodes, each a few searches of the graph (Cheriyan and Maheshwari 1988).
     pub fn next(&mut self, alloc: Global, g: &Graph) -> Result<Step, NoMemory>
         requires { self.old.graph ≡ g.now }
         ensures more { IfOk result (λ s. s ≡ Step.More → AddsEar self.old self.new) }
@@ -103,14 +106,14 @@ impl EarOrder {
     }
 }
 
-/// An ear order of all nodes, one ear after the other: as many as there are nodes at most, each in a few searches.
+/// An ear order of all nodes, one ear after the other, as of Cheriyan and Maheshwari (1988): as many ears as there are nodes at most,
+/// each ear in a few searches a turn, and at most as many turns as nodes.
 pub fn order(alloc: Global, g: &Graph, r: u32, t: u32, u: u32) -> Result<EarOrder, NoMemory>
     requires three { IsThreeConnected g.now }
     requires ends { AreEnds g.now r t u }
     ensures { IfOk result (IsWholeOrder g.now r t u) }
 {
     let mut ears = EarOrder::start(alloc, g, r, t, u)?;
-    let _len = ears.len();
     loop {
         match ears.next(alloc, g)? {
             Step::More => {}

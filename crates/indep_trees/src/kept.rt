@@ -37,7 +37,7 @@ impl Model for IndepTrees {
 }
 
 impl IndepTrees {
-    /// The parent of a node that is no monitor, in the tree with this number.
+    /// The parent of a node that is no monitor, in the tree with this number: 0, 1 or 2. It takes no memory.
     pub fn parent(&self, tree: u32, v: u32) -> u32
         requires tree { tree < 3 }
         requires node { IsFree self.now.graph (has self.now.monitors) v }
@@ -50,7 +50,7 @@ impl IndepTrees {
         }
     }
 
-    /// The number of a node.
+    /// The number of a node, from 0 on; no two nodes have the same. It takes no memory.
     pub fn number(&self, v: u32) -> u32
         requires { v < self.now.graph.nodes }
         ensures { result ≡ number_in self.now v }
@@ -61,7 +61,8 @@ impl IndepTrees {
 
 /// Independent trees for monitors that identify: the extended graph is ordered by ears, from the one further node to the least monitor with the
 /// other further node last, and its nodes are put into one order ear by ear. The parents of a node are its two neighbours on its ear and one on
-/// a later ear. After Cheriyan and Maheshwari (1988).
+/// a later ear. After Cheriyan and Maheshwari (1988), and for monitors Ma, He, Leung, Swami and Towsley (2013). It costs an order of ears, and
+/// for each ear a pass over the nodes before it.
 pub fn trees(alloc: Global, g: &Graph, m: &NodeSet) -> Result<IndepTrees, NoMemory>
     requires connected { IsConnected g.now }
     requires nodes { 3 ≤ g.now.nodes }

@@ -5,8 +5,6 @@ mod answer;
 mod delays;
 pub mod laws;
 mod solve;
-#[cfg(test)]
-mod tests;
 
 pub use answer::{Answer, Why};
 pub use delays::Delays;

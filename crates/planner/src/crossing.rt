@@ -13,8 +13,8 @@ use std::alloc::Global;
 use tomo_base::{NoMemory, NodeSet, Pockets};
 use topology::Topology;
 
-// At most four monitor paths for each link, and its recipe over them.
-fn cross_all(alloc: Global, t: &Topology, m: &NodeSet) -> Result<Measured, NoMemory>
+/// At most four monitor paths for each link, and its recipe over them.
+pub fn cross_all(alloc: Global, t: &Topology, m: &NodeSet) -> Result<Measured, NoMemory>
     requires nodes { All (λ v. v < t.now.graph.nodes) m.now }
     requires identifies { Identifies t.now.graph (has m.now) }
     ensures topology { IsTopology t.now }
@@ -30,7 +30,8 @@ fn cross_all(alloc: Global, t: &Topology, m: &NodeSet) -> Result<Measured, NoMem
     Ok(Measured { pool, recipes })
 }
 
-/// A good plan for given monitors that identify every link, whose recipes name at most four paths each. It may have more paths than links.
+/// A good plan for given monitors that identify every link, whose recipes name at most four paths each, as of `cross_links`. It may have more
+/// paths than links, and no pockets. It costs one call of `recipe` for each link.
 pub fn cross_plan_for(alloc: Global, t: &Topology, m: &NodeSet) -> Result<Plan, NoMemory>
     requires nodes { All (λ v. v < t.now.graph.nodes) m.now }
     requires identifies { Identifies t.now.graph (has m.now) }

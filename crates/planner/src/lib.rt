@@ -4,8 +4,6 @@
 mod crossing;
 mod measures;
 mod plans;
-#[cfg(test)]
-mod tests;
 
 pub use crossing::cross_plan_for;
 pub use plans::{make_plan, plan_for};

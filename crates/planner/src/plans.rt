@@ -14,7 +14,9 @@ use tomo_base::{NoMemory, NodeSet, Pockets};
 use topology::Topology;
 
 /// The plan of a topology: the lowest set of monitors, which the placement rule places, its home pockets, and as many paths as links, with a
-/// recipe for each link.
+/// recipe for each link. After the placement and the spanning trees with their paths of Ma, He, Leung, Swami and Towsley (2013). It costs what
+/// `mmp`, `pockets`, `trees` and `stpc` do, one after the other: at most a few searches for each pair of nodes, each linear in nodes and links,
+/// and the nodes of all paths.
 pub fn make_plan(alloc: Global, t: &Topology) -> Result<Plan, NoMemory>
     ensures planned { IfOk result (IsPlanned t.now.names t.now.graph) }
     ensures rows { IfOk result (λ p. row_count p < 2 ^ 32) }
@@ -25,7 +27,8 @@ pub fn make_plan(alloc: Global, t: &Topology) -> Result<Plan, NoMemory>
     Plan::build(alloc, t, &monitors, &pockets, &made.pool, &made.recipes)
 }
 
-/// A plan for given monitors that identify every link: as many paths as links, with a recipe for each link, and no pockets.
+/// A plan for given monitors that identify every link: as many paths as links, with a recipe for each link, and no pockets. After the spanning
+/// trees with their paths of Ma, He, Leung, Swami and Towsley (2013). It costs what `trees` and `stpc` do, one after the other.
 pub fn plan_for(alloc: Global, t: &Topology, m: &NodeSet) -> Result<Plan, NoMemory>
     requires nodes { All (λ v. v < t.now.graph.nodes) m.now }
     requires identifies { Identifies t.now.graph (has m.now) }

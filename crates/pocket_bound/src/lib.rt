@@ -4,7 +4,5 @@
 mod gathering;
 mod homes;
 mod labelling;
-#[cfg(test)]
-mod tests;
 
 pub use gathering::pockets;

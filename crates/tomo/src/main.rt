@@ -4,38 +4,14 @@
 ghost use Rattle.std.specs.Prelude.{◌≡◌, drop, map, string_bytes, IfOk};
 ghost use Rattle.std.specs.Vec.Iter.{into_iter_items};
 
-mod answer;
-mod checked;
-mod drilling;
-mod gather;
-mod judging;
-mod laws;
-mod linking;
-mod machine;
-mod naming;
-mod numbers;
-mod placed;
-mod planning;
-mod refusal;
-mod reporting;
-mod run;
-mod solving;
-mod status;
-mod table;
-#[cfg(test)]
-mod tests;
-mod work;
-mod write;
-
 use outside::{FileShelf, StdSink};
-use run::tomo;
-use status::{Status, exit_status, fault_line};
 use std::alloc::Global;
 use std::env;
 use std::env::Args;
 use std::io::ErrorKind;
 use std::process::ExitCode;
 use tomo_base::{NoMemory, Words};
+use tomo_run::{Status, exit_status, fault_line, tomo};
 
 // Why the words of the command line could not be had.
 enum NoWords {

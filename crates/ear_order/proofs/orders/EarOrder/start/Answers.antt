@@ -59,10 +59,26 @@ invariant_of-result c =
     (λ v. ap (λ xs. mark_of xs v) marks ∙ marks_two n r t v (omega (arith, ends.0, c.nodes-n.ensures.nodes)) (omega (arith, ends.1, c.nodes-n.ensures.nodes)))
     (omega (arith, c.nodes-n.ensures.nodes, c.nodes-n.ensures.few)) c.facing-first.result.items c.in_ok-next_ear.field-0.items c.in_ok-next_ear.ensures.ear c.in_ok-next_ear.ensures.next c.facing-first.ensures.ear c.facing-first.ensures.starts)
 
-pub returns : goal.returns
-returns c =
+pub returns-clause-begun : goal.returns-clause-begun
+returns-clause-begun c =
     let network : ℕ → List Link → Network = λ n ls. record { nodes = n; links = ls } in
     let same : network c.nodes-n.result c.in_ok-links.links.items ≡ c.args.g.now = ap₂ network c.nodes-n.ensures.nodes (c.in_ok-links.ensures.items_if_clones_equal (λ x y h. h) ∙ c.links.ensures.links) in
     let one : c.push.new.self.items ≡ c.facing-first.result ∷ [] = c.in_ok-push.ensures.items ∙ ap (λ z. z ++ c.facing-first.result ∷ []) c.new-ears.ensures.items in
     let view : Network → List (Vec ℕ Global) → Ears = λ g es. record { graph = g; r = c.args.r; t = c.args.t; u = c.args.u; list = map (λ e. e.items) es } in
     (c.facing-first.result.items, ap₂ view same one)
+
+pub returns-clause-order : goal.returns-clause-order
+returns-clause-order c =
+    let g = c.args.g.now in
+    let n = c.nodes-n.result in
+    let r = c.args.r in
+    let t = c.args.t in
+    let ends = linked_below g.nodes g.links r t c.nodes-n.ensures.graph c.requires.ends.link in
+    let bare : c.in_ok-old.old.items ≡ replicate n false = c.in_ok-old.ensures.items_if_clones_equal (λ y h. h) in
+    let marks : c.deref.result.now ≡ set (set (replicate n false) r true) t true = c.deref.ensures.value ∙ ap (λ xs. set (set xs r true) t true) bare in
+    let network : ℕ → List Link → Network = λ n ls. record { nodes = n; links = ls } in
+    let same : network c.nodes-n.result c.in_ok-links.links.items ≡ g = ap₂ network c.nodes-n.ensures.nodes (c.in_ok-links.ensures.items_if_clones_equal (λ x y h. h) ∙ c.links.ensures.links) in
+    let one : c.push.new.self.items ≡ c.facing-first.result ∷ [] = c.in_ok-push.ensures.items ∙ ap (λ z. z ++ c.facing-first.result ∷ []) c.new-ears.ensures.items in
+    rw (same, one) (order_first g c.nodes-n.ensures.graph c.requires.three r t c.args.u c.requires.ends c.deref.result.now
+    (λ v. ap (λ xs. mark_of xs v) marks ∙ marks_two n r t v (omega (arith, ends.0, c.nodes-n.ensures.nodes)) (omega (arith, ends.1, c.nodes-n.ensures.nodes)))
+    (omega (arith, c.nodes-n.ensures.nodes, c.nodes-n.ensures.few)) c.facing-first.result.items c.in_ok-next_ear.field-0.items c.in_ok-next_ear.ensures.ear c.in_ok-next_ear.ensures.next c.facing-first.ensures.ear c.facing-first.ensures.starts)

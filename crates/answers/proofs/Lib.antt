@@ -1,0 +1,3 @@
+pub mod NodeNames
+pub mod TermRows
+pub mod Solved

@@ -1,0 +1,10 @@
+pub mod OneProof
+pub mod FileKinds
+pub mod Refusals
+pub mod Judging
+pub mod Planning
+pub mod Linking
+pub mod Reporting
+pub mod Rounds
+pub mod Drilling
+pub mod Answers

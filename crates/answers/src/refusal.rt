@@ -1,0 +1,121 @@
+// Refusals: one row that names what is refused, why, and where.
+ghost use Rattle.std.specs.Prelude.{◌≡◌, ◌≢◌, IfOk, decimal};
+ghost use Rattle.topology.specs.Topology.{names_of};
+ghost use Rattle.topology.specs.Faults.{examined, IsTopoFault};
+ghost use Rattle.answers.specs.Refusals.{refused, topology_reason, topology_place, monitor_reason, monitor_place, plan_reason, plan_place, check_reason, fault_number, round_reason, round_place};
+
+use cert_check::Fault;
+use itoa::Buffer;
+use plan_form::PlanFault;
+use round_reader::RoundFault;
+use rows::Rows;
+use std::alloc::Global;
+use tomo_base::NoMemory;
+use topology::{MonFault, TopoFault, nth_name};
+
+/// The row that refuses a word for a reason, at a place.
+pub fn refuse(alloc: Global, word: &str, reason: &str, place: &str) -> Result<Rows, NoMemory>
+    ensures { IfOk result (λ rows. rows ≡ refused word.now reason.now place.now) }
+{
+    let mut rows = Rows::new(alloc);
+    rows.field(b"refused")?;
+    rows.field(word.as_bytes())?;
+    rows.field(reason.as_bytes())?;
+    rows.field(place.as_bytes())?;
+    rows.close()?;
+    Ok(rows)
+}
+
+/// The same with a number as the place.
+pub fn refuse_at(alloc: Global, word: &str, reason: &str, place: u64) -> Result<Rows, NoMemory>
+    ensures { IfOk result (λ rows. rows ≡ refused word.now reason.now (decimal place)) }
+{
+    let mut digits = Buffer::new();
+    refuse(alloc, word, reason, digits.format(place))
+}
+
+/// The row that refuses a topology.
+pub fn refuse_topology(
+    alloc: Global,
+    word: &str,
+    rows: &Rows,
+    header: bool,
+    fault: TopoFault,
+) -> Result<Rows, NoMemory>
+    requires { IsTopoFault header rows.now.closed fault }
+    ensures cause { IfOk result (λ refusal. fault ≢ TopoFault.NoMemory) }
+    ensures row { IfOk result (λ refusal. refusal ≡ refused word.now (topology_reason fault) (topology_place (names_of (examined header rows.now.closed)) fault)) }
+{
+    match fault {
+        TopoFault::NoMemory => Err(NoMemory),
+        TopoFault::Width(row) => refuse_at(alloc, word, "width", u64::from(row)),
+        TopoFault::Name(row) => refuse_at(alloc, word, "name", u64::from(row)),
+        TopoFault::Loop(row) => refuse_at(alloc, word, "loop", u64::from(row)),
+        TopoFault::Nodes(row) => refuse_at(alloc, word, "nodes", u64::from(row)),
+        TopoFault::Links(row) => refuse_at(alloc, word, "links", u64::from(row)),
+        TopoFault::Few(nodes) => refuse_at(alloc, word, "few", u64::from(nodes)),
+        TopoFault::Apart(node) => {
+            let name = nth_name(alloc, rows, header, node)?;
+            refuse(alloc, word, "apart", name.as_str())
+        }
+    }
+}
+
+/// The row that refuses monitors.
+pub fn refuse_monitors(alloc: Global, word: &str, fault: MonFault) -> Result<Rows, NoMemory>
+    ensures cause { IfOk result (λ refusal. fault ≢ MonFault.NoMemory) }
+    ensures row { IfOk result (λ refusal. refusal ≡ refused word.now (monitor_reason fault) (monitor_place fault)) }
+{
+    match fault {
+        MonFault::NoMemory => Err(NoMemory),
+        MonFault::Unknown(row) => refuse_at(alloc, word, "unknown", u64::from(row)),
+    }
+}
+
+/// The row that refuses a plan.
+pub fn refuse_plan(alloc: Global, word: &str, fault: PlanFault) -> Result<Rows, NoMemory>
+    ensures cause { IfOk result (λ refusal. fault ≢ PlanFault.NoMemory) }
+    ensures row { IfOk result (λ refusal. refusal ≡ refused word.now (plan_reason fault) (plan_place fault)) }
+{
+    match fault {
+        PlanFault::NoMemory => Err(NoMemory),
+        PlanFault::Record(row) => refuse_at(alloc, word, "record", u64::from(row)),
+        PlanFault::Number(row) => refuse_at(alloc, word, "number", u64::from(row)),
+        PlanFault::Order(row) => refuse_at(alloc, word, "order", u64::from(row)),
+        PlanFault::Missing(rows) => refuse_at(alloc, word, "missing", u64::from(rows)),
+        PlanFault::After(row) => refuse_at(alloc, word, "after", u64::from(row)),
+    }
+}
+
+/// The row that refuses a plan with a fault.
+pub fn refuse_fault(alloc: Global, word: &str, fault: Fault) -> Result<Rows, NoMemory>
+    ensures { IfOk result (λ refusal. refusal ≡ refused word.now (check_reason fault) (decimal (fault_number fault))) }
+{
+    match fault {
+        Fault::Names(name) => refuse_at(alloc, word, "check-names", u64::from(name)),
+        Fault::Links(link) => refuse_at(alloc, word, "check-links", u64::from(link)),
+        Fault::Monitor(monitor) => refuse_at(alloc, word, "check-monitor", u64::from(monitor)),
+        Fault::Pocket(pocket) => refuse_at(alloc, word, "check-pocket", u64::from(pocket)),
+        Fault::Path(path) => refuse_at(alloc, word, "check-path", u64::from(path)),
+        Fault::Recipe(recipe) => refuse_at(alloc, word, "check-recipe", u64::from(recipe)),
+    }
+}
+
+/// The row that refuses rounds.
+pub fn refuse_rounds(alloc: Global, word: &str, fault: RoundFault) -> Result<Rows, NoMemory>
+    ensures cause { IfOk result (λ refusal. fault ≢ RoundFault.NoMemory) }
+    ensures row { IfOk result (λ refusal. refusal ≡ refused word.now (round_reason fault) (round_place fault)) }
+{
+    match fault {
+        RoundFault::NoMemory => Err(NoMemory),
+        RoundFault::Width(row) => refuse_at(alloc, word, "width", u64::from(row)),
+        RoundFault::Number(row, field) => {
+            let mut digits = Buffer::new();
+            let mut place = String::new(alloc);
+            place.push_str(digits.format(row))?;
+            place.push_str(" ")?;
+            place.push_str(digits.format(field))?;
+            refuse(alloc, word, "number", place.as_str())
+        }
+    }
+}

@@ -1,6 +1,0 @@
-use Rattle.std.proofs.Common.{◌≡◌}
-use Rattle.tomo.proofs.TermRows.{term_rows}
-use Rattle.tomo.proofs.linking.term_rows.Given as goal
-
-abbrev pub invariant-loop-term : goal.invariant-loop-term
-invariant-loop-term l = l.rows ≡ term_rows l.topology.names l.pool l.term-items l.term-index

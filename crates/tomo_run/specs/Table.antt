@@ -1,0 +1,116 @@
+-- The table of commands, and the shape of a command line.
+use Rattle.std.specs.Prelude.{ℕ, ◌+◌, ◌-◌, ◌∷◌, [], ◌&&◌, List, length, take, drop, codes, Bool, true, false, Option, Some, None, nat_lt, if◌then◌else◌, ◌==◌, slice_index_or, nat_eq}
+use Rattle.std.specs.List.{starts_with}
+use Rattle.std.specs.Str.{bytes_eq}
+use Rattle.tomo_run.specs.declared.table.Command.{Command}
+use Rattle.tomo_run.specs.declared.table.Command.TheVariants.{OnFiles, Drill}
+use Rattle.answers.specs.declared.tasks.TopologyTask.TheVariants.{Plan}
+use Rattle.tomo_run.specs.declared.table.FileTask.{FileTask}
+use Rattle.tomo_run.specs.declared.table.FileTask.TheVariants.{OnTopology, OnMonitors, OnPlan}
+use Rattle.answers.specs.declared.tasks.MonitorTask.TheVariants.{Judge, Paths, Link}
+use Rattle.tomo_run.specs.declared.table.PlanTask.TheVariants.{Check, Solve}
+use Rattle.answers.specs.declared.file_kind.FileKind.{FileKind}
+use Rattle.answers.specs.declared.file_kind.FileKind.TheVariants.{TopologyFile, MonitorFile, PlanFile, RoundFile}
+use Rattle.tomo_run.specs.declared.table.Shape.{Shape}
+use Rattle.answers.specs.declared.drilling.DrillNumbers.{DrillNumbers}
+use Rattle.tomo_run.specs.Numbers.{numbers_of}
+
+-- the word of each task over files
+abbrev pub task_of : List ℕ → Option FileTask
+task_of word =
+    if bytes_eq word (codes "plan") then Some (OnTopology Plan) else
+    (if bytes_eq word (codes "judge") then Some (OnMonitors Judge) else
+    (if bytes_eq word (codes "paths") then Some (OnMonitors Paths) else
+    (if bytes_eq word (codes "link") then Some (OnMonitors Link) else
+    (if bytes_eq word (codes "check") then Some (OnPlan Check) else
+    (if bytes_eq word (codes "solve") then Some (OnPlan Solve) else None)))))
+
+-- the files of each command, in the order in which they are asked for
+abbrev pub files_of : Command → List FileKind
+files_of (OnFiles (OnTopology task)) = TopologyFile ∷ []
+files_of (OnFiles (OnMonitors task)) = TopologyFile ∷ MonitorFile ∷ []
+files_of (OnFiles (OnPlan Check)) = TopologyFile ∷ PlanFile ∷ []
+files_of (OnFiles (OnPlan Solve)) = TopologyFile ∷ PlanFile ∷ RoundFile ∷ []
+files_of (Drill numbers) = []
+
+-- how many words a command takes after its files
+abbrev pub other_words : Command → ℕ
+other_words (OnFiles (OnTopology task)) = 0
+other_words (OnFiles (OnMonitors Judge)) = 0
+other_words (OnFiles (OnMonitors Paths)) = 0
+other_words (OnFiles (OnMonitors Link)) = 2
+other_words (OnFiles (OnPlan task)) = 0
+other_words (Drill numbers) = 3
+
+-- how many words a command takes in all after its own and the option
+abbrev pub word_count : Command → ℕ
+word_count command = length (files_of command) + other_words command
+
+-- the word begins with two dashes
+abbrev pub begins_option : List ℕ → Bool
+begins_option word = starts_with nat_eq word (codes "--")
+
+-- no word begins with two dashes
+unfoldable pub no_options : List (List ℕ) → Bool
+no_options [] = true
+no_options (word ∷ words) = if begins_option word then false else no_options words
+
+-- the word after the command says that the topology's first row is a header
+abbrev pub has_header : List (List ℕ) → Bool
+has_header words = nat_lt 1 (length words) && bytes_eq (slice_index_or words 1 []) (codes "--header")
+
+-- the place of the first file
+abbrev pub first_place : Bool → ℕ
+first_place true = 2
+first_place false = 1
+
+-- as many words as the command takes stand from this place on, and no option
+abbrev pub fits : List (List ℕ) → Command → ℕ → Bool
+fits words command first =
+    (nat_lt first (length words + 1) && (length words - first == word_count command)) && no_options (drop first words)
+
+-- the shape of words that begin with the word of a task
+abbrev pub shaped : List (List ℕ) → Option FileTask → Option Shape
+shaped words None = None
+shaped words (Some task) =
+    if fits words (OnFiles task) (first_place (has_header words)) then Some (record { command = OnFiles task; header = has_header words }) else None
+
+-- the shape of a drill
+abbrev pub drill_with : Option DrillNumbers → Option Shape
+drill_with None = None
+drill_with (Some numbers) = Some (record { command = Drill numbers; header = false })
+
+-- the shape of words that begin with the word of a drill: three numbers follow
+abbrev pub drill_shape : List (List ℕ) → Option Shape
+drill_shape words = if length words == 4 then drill_with (numbers_of words) else None
+
+-- the shape of the words, where they have one
+abbrev pub shape : List (List ℕ) → Option Shape
+shape words =
+    if bytes_eq (slice_index_or words 0 []) (codes "drill") then drill_shape words else shaped words (task_of (slice_index_or words 0 []))
+
+-- the names of the files of a shape
+abbrev pub names_of : Shape → List (List ℕ) → List (List ℕ)
+names_of shape words = take (length (files_of shape.command)) (drop (first_place shape.header) words)
+
+-- the names of the files, where there is a shape
+abbrev pub named : List (List ℕ) → Option Shape → List (List ℕ)
+named words None = []
+named words (Some shape) = names_of shape words
+
+-- the words that name files, in their order
+abbrev pub file_words : List (List ℕ) → List (List ℕ)
+file_words words = named words (shape words)
+
+-- the words after the files of a shape
+abbrev pub rest_of : Shape → List (List ℕ) → List (List ℕ)
+rest_of shape words = drop (length (files_of shape.command)) (drop (first_place shape.header) words)
+
+-- the words after the files, where there is a shape
+abbrev pub rest : List (List ℕ) → Option Shape → List (List ℕ)
+rest words None = []
+rest words (Some shape) = rest_of shape words
+
+-- the words after those that name files
+abbrev pub last_words : List (List ℕ) → List (List ℕ)
+last_words words = rest words (shape words)

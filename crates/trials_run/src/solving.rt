@@ -1,0 +1,195 @@
+// Rounds are solved, and drills are made.
+use crate::stage::{Case, all_hold, lines_of, run, run_over_plan};
+use crate::texts::{
+    COMPLETE, COMPLETE_PLAN, STAR, STAR_PLAN, TRIANGLES, TRIANGLES_PLAN, TWO_LINKS, TWO_LINKS_PLAN,
+};
+use std::test::Fail;
+use tomo_run::Status;
+
+const STAR_ROUNDS: [Case; 8] = [
+    Case {
+        words: &["solve", "t", "p", "r"],
+        files: &[("t", STAR), ("p", STAR_PLAN), ("r", b"5,6,7\n")],
+        status: Status::Done,
+        output: b"link,0,c,x\nlink,1,c,y\nlink,2,c,z\nround,0,ok,2,3,4\nend,1,0\n",
+    },
+    Case {
+        words: &["solve", "t", "p", "r"],
+        files: &[("t", STAR), ("p", STAR_PLAN), ("r", b"5,6,8\n")],
+        status: Status::Negative,
+        output: b"link,0,c,x\nlink,1,c,y\nlink,2,c,z\nround,0,odd,0\nend,1,1\n",
+    },
+    Case {
+        words: &["solve", "t", "p", "r"],
+        files: &[("t", STAR), ("p", STAR_PLAN), ("r", b"2,2,10\n")],
+        status: Status::Negative,
+        output: b"link,0,c,x\nlink,1,c,y\nlink,2,c,z\nround,0,negative,0\nend,1,1\n",
+    },
+    Case {
+        words: &["solve", "t", "p", "r"],
+        files: &[
+            ("t", STAR),
+            ("p", STAR_PLAN),
+            (
+                "r",
+                b"2000000000000,2000000000000,2000000000000\n1000000000000000,1000000000000000,1000000000000000\n",
+            ),
+        ],
+        status: Status::Negative,
+        output: b"link,0,c,x\nlink,1,c,y\nlink,2,c,z\nround,0,ok,1000000000000,1000000000000,1000000000000\nround,1,large,0\nend,2,1\n",
+    },
+    Case {
+        words: &["solve", "t", "p", "r"],
+        files: &[("t", STAR), ("p", STAR_PLAN), ("r", b"")],
+        status: Status::Done,
+        output: b"link,0,c,x\nlink,1,c,y\nlink,2,c,z\nend,0,0\n",
+    },
+    Case {
+        words: &["solve", "t", "p", "r"],
+        files: &[("t", STAR), ("p", STAR_PLAN), ("r", b"5,6\n")],
+        status: Status::BadInput,
+        output: b"refused,r,width,1\n",
+    },
+    Case {
+        words: &["solve", "t", "p", "r"],
+        files: &[("t", STAR), ("p", STAR_PLAN), ("r", b"5,x,7\n")],
+        status: Status::BadInput,
+        output: b"refused,r,number,1 2\n",
+    },
+    Case {
+        words: &["solve", "t", "p", "r"],
+        files: &[
+            ("t", STAR),
+            ("p", STAR_PLAN),
+            ("r", b"5,1000000000000001,7\n"),
+        ],
+        status: Status::BadInput,
+        output: b"refused,r,number,1 2\n",
+    },
+];
+
+#[test]
+fn rounds_over_a_star_are_solved(rt: HostRuntime) -> Result<(), Fail> {
+    assert!(rt; all_hold(rt.alloc(), &STAR_ROUNDS)?);
+    Ok(())
+}
+
+const OTHER_ROUNDS: [Case; 5] = [
+    Case {
+        words: &["solve", "t", "p", "r"],
+        files: &[
+            ("t", TWO_LINKS),
+            ("p", TWO_LINKS_PLAN),
+            ("r", b"5, 7 \n0,1000000000000\n1000000000001,0\n"),
+        ],
+        status: Status::Negative,
+        output: b"link,0,a,b\nlink,1,b,c\nround,0,ok,5,7\nround,1,ok,0,1000000000000\nround,2,large,0\nend,3,1\n",
+    },
+    Case {
+        words: &["solve", "t", "p", "r"],
+        files: &[
+            ("t", COMPLETE),
+            ("p", COMPLETE_PLAN),
+            ("r", b"1,2,8,9,4,11\n"),
+        ],
+        status: Status::Done,
+        output: b"link,0,a,b\nlink,1,a,c\nlink,2,a,d\nlink,3,b,c\nlink,4,b,d\nlink,5,c,d\nround,0,ok,1,2,3,4,5,6\nend,1,0\n",
+    },
+    Case {
+        words: &["solve", "t", "p", "r"],
+        files: &[
+            ("t", TRIANGLES),
+            ("p", TRIANGLES_PLAN),
+            ("r", b"1,2,3,3,3,3,2,1\n"),
+        ],
+        status: Status::Done,
+        output: b"link,0,a,b\nlink,1,a,c\nlink,2,b,c\nlink,3,c,d\nlink,4,d,e\nlink,5,d,f\nlink,6,e,f\nround,0,ok,1,1,1,1,1,1,1\nend,1,0\n",
+    },
+    // The eight paths of a plan that is not tied can disagree.
+    Case {
+        words: &["solve", "t", "p", "r"],
+        files: &[
+            ("t", TRIANGLES),
+            ("p", TRIANGLES_PLAN),
+            ("r", b"1,2,3,3,3,5,2,1\n"),
+        ],
+        status: Status::Negative,
+        output: b"link,0,a,b\nlink,1,a,c\nlink,2,b,c\nlink,3,c,d\nlink,4,d,e\nlink,5,d,f\nlink,6,e,f\nround,0,path,2\nend,1,1\n",
+    },
+    // A plan with a fault is the last file that is read.
+    Case {
+        words: &["solve", "t", "p", "r"],
+        files: &[("t", b"a,b\nb,d\n"), ("p", TWO_LINKS_PLAN)],
+        status: Status::BadInput,
+        output: b"refused,p,check-names,2\n",
+    },
+];
+
+#[test]
+fn rounds_over_other_plans_are_solved(rt: HostRuntime) -> Result<(), Fail> {
+    assert!(rt; all_hold(rt.alloc(), &OTHER_ROUNDS)?);
+    Ok(())
+}
+
+#[test]
+fn a_recipe_with_another_sign_is_refused(rt: HostRuntime) -> Result<(), Fail> {
+    let right = b"recipe,3,-1:1 ".as_slice();
+    let mut plan = Vec::new(rt.alloc());
+    for line in TRIANGLES_PLAN.split(|byte| *byte == b'\n') {
+        let turned = line.starts_with(right);
+        plan.extend_from_slice(if turned {
+            b"recipe,3,1:1 1:2 1:5 -1:6"
+        } else {
+            line
+        })?;
+        plan.push(b'\n')?;
+    }
+    let files = [("t", TRIANGLES), ("p", plan.as_slice())];
+    let (status, sink) = run(rt.alloc(), &["check", "t", "p"], &files)?;
+    assert!(rt; status == Status::Negative);
+    assert!(rt; sink.bytes() == b"bad,recipe,3\n".as_slice());
+    Ok(())
+}
+
+#[test]
+fn no_round_over_a_printed_plan_names_a_path(rt: HostRuntime) -> Result<(), Fail> {
+    let rounds =
+        b"0,0,0,0,0,0,0\n2,0,0,0,0,0,0\n4,4,4,4,4,4,4\n2,4,6,8,10,12,14\n14,2,12,4,10,6,8\n90,80,70,60,50,40,30\n";
+    let files = [("t", TRIANGLES), ("r", rounds.as_slice())];
+    let (planning, solving) = (["plan", "t"], ["solve", "t", "p", "r"]);
+    let (_, sink) = run_over_plan(rt.alloc(), &planning, &solving, &files)?;
+    assert!(rt; lines_of(sink.bytes(), b"round,") == 6);
+    assert!(rt; lines_of(sink.bytes(), b"round,0,ok,0,0,0,0,0,0,0") == 1);
+    for k in [
+        b"round,1,path".as_slice(),
+        b"round,2,path",
+        b"round,3,path",
+        b"round,4,path",
+        b"round,5,path",
+    ] {
+        assert!(rt; lines_of(sink.bytes(), k) == 0);
+    }
+    Ok(())
+}
+
+const DRILLS: [Case; 1] = [Case {
+    words: &["drill", "1", "3", "3"],
+    files: &[],
+    status: Status::Done,
+    output: b"drill,1,3,3\nmonitors,3\nbound,3\npaths,3,1330000\ntotal,1330000\n",
+}];
+
+#[test]
+fn a_ring_is_drilled(rt: HostRuntime) -> Result<(), Fail> {
+    assert!(rt; all_hold(rt.alloc(), &DRILLS)?);
+    Ok(())
+}
+
+#[test]
+fn a_large_network_is_drilled(rt: HostRuntime) -> Result<(), Fail> {
+    let (status, sink) = run(rt.alloc(), &["drill", "7", "300", "900"], &[])?;
+    assert!(rt; status == Status::Done);
+    let begin = b"drill,7,300,900\nmonitors,12\nbound,12\npaths,900,".as_slice();
+    assert!(rt; sink.bytes().starts_with(begin));
+    Ok(())
+}

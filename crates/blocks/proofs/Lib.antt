@@ -7,5 +7,6 @@ pub mod Looking
 pub mod Sweeping
 pub mod SetLists
 pub mod OneSide
+pub mod CutSets
 pub mod Cutting
 pub mod Unparted

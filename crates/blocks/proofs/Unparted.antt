@@ -6,7 +6,8 @@ use Rattle.tomo_base.specs.Sets.{minus, Within}
 use Rattle.tomo_base.proofs.Links.{linked_comm}
 use Rattle.tomo_base.specs.Parting.{without_two, IsClosedIn, AreJoinedIn, IsJoinedIn}
 use Rattle.tomo_base.proofs.Parting.{without_two-mono, without_two-in, without_two-to, without_two-from, minus-in, minus-out, flip, joined-more}
-use Rattle.blocks.proofs.Cutting.{Block, block-owner}
+use Rattle.blocks.proofs.CutSets.{Block}
+use Rattle.blocks.proofs.Cutting.{block-owner}
 
 -- no two other numbers part x from y in B
 abbrev pub Unparted : Network → (ℕ → Bool) → ℕ → ℕ → Type 0

@@ -24,7 +24,8 @@ use Rattle.blocks.specs.Lists.{lists_of}
 use Rattle.blocks.specs.Sides.{AreSides, HasNoCut}
 use Rattle.blocks.proofs.SameSets.{contains_map}
 use Rattle.blocks.proofs.SetLists.{Each, Some, each-map}
-use Rattle.blocks.proofs.Cutting.{BlockLike, Block, Cut, Rough, Cutting, MeetOne, meet-one, meet-sym, owner-ext, rest, weight, cutting-start, cutting-ready, cutting-cut, cutting-end, cut-count}
+use Rattle.blocks.proofs.CutSets.{BlockLike, Block, Cut, MeetOne, meet-one, meet-sym, owner-ext, rest, cut-count}
+use Rattle.blocks.proofs.Cutting.{Rough, Cutting, weight, cutting-start, cutting-ready, cutting-cut, cutting-end}
 
 -- ---- sets that no node cuts, by walks and by closed sets
 

@@ -123,8 +123,8 @@ fn cut_up(alloc: Global, g: &Graph) -> Result<Vec<Vec<u32>>, NoMemory>
 }
 
 /// The blocks and the cut vertices of a connected graph: exactly the largest sets of two nodes or more that are connected and stay so
-/// without any one node, and exactly the nodes without which the graph is not connected, ascending. Sets are cut at nodes that part them until
-/// none is left. After Hopcroft and Tarjan (1973), in another way: not one search numbers all nodes, but each node is tried by a search of
+/// without any one node, and exactly the nodes without which the graph is not connected, ascending. Sets are cut at nodes that part them
+/// until none is left. After Hopcroft and Tarjan (1973), in another way: not one search numbers all nodes, but each node is tried by a search of
 /// its own. The searches, each linear in nodes and links, are at most about two for each node and three for each block.
 pub fn blocks(alloc: Global, g: &Graph) -> Result<BlockList, NoMemory>
     requires connected { IsConnected g.now }

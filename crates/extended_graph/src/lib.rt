@@ -7,8 +7,8 @@ ghost use Rattle.extended_graph.specs.Laws.{ThreeConnectedByMonitors};
 
 pub use extending::extend;
 
-/// A connected graph of at least three nodes is three-connected when it is extended exactly where the monitors have no bad part. After Ma, He,
-/// Leung, Swami and Towsley (2013).
+/// A connected graph of at least three nodes is three-connected when it is extended exactly where the monitors have no bad part. After Ma,
+/// He, Leung, Swami and Towsley (2013).
 pub fn three_connected_by_monitors()
     ensures { ThreeConnectedByMonitors }
 {}

@@ -21,10 +21,10 @@ pub enum Verdict {
 }
 
 /// Judges monitors of a connected graph: `Yes` exactly where they identify every link, and `Bad` exactly where they do not, with the bad
-/// set, ascending. They identify exactly where the extended graph is three-connected, so that is asked first; where it is not, or would be larger than
-/// a graph may be, each node that is no monitor is asked for three paths to different monitors that share only the node. The first that has
-/// none stands in the bad set, which is the least set that fewer nodes cut off from the monitors. At most a few searches a node, each linear
-/// in nodes and links. After Ma, He, Leung, Swami and Towsley (2013).
+/// set, ascending. They identify exactly where the extended graph is three-connected, so that is asked first; where it is not, or would be
+/// larger than a graph may be, each node that is no monitor is asked for three paths to different monitors that share only the node. The
+/// first that has none stands in the bad set, which is the least set that fewer nodes cut off from the monitors. At most a few searches a
+/// node, each linear in nodes and links. After Ma, He, Leung, Swami and Towsley (2013).
 pub fn judge(alloc: Global, g: &Graph, m: &NodeSet) -> Result<Verdict, NoMemory>
     requires connected { IsConnected g.now }
     requires three { 3 ≤ g.now.nodes }

@@ -8,7 +8,8 @@ use Rattle.tomo_base.specs.Parting.{without_two, IsClosedIn, IsJoinedIn, IsJoine
 use Rattle.tomo_base.proofs.Parting.{without-from, without-parts, without_two-mono, flip, joined-more}
 use Rattle.tomo_base.proofs.Picks.{count-within, count-without, pick1}
 use Rattle.tomo_base.proofs.Reaching.{is_node, is_node_below}
-use Rattle.blocks.proofs.Cutting.{Block, blocks-meet}
+use Rattle.blocks.proofs.CutSets.{Block}
+use Rattle.blocks.proofs.Cutting.{blocks-meet}
 use Rattle.blocks.proofs.Unparted.{Pairwise}
 use Rattle.split_tree.proofs.Sound.{ThreeBlockIn}
 use Rattle.mmp_place.proofs.Nodes.{ends_are, differ}

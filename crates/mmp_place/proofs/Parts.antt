@@ -9,7 +9,7 @@ use Rattle.tomo_base.proofs.Parting.{without_two-in, without_two-from, without_t
 use Rattle.tomo_base.proofs.Members.{has-members, members_below}
 use Rattle.tomo_base.proofs.Reaching.{is_node, nodes_in, is_node_below, is_node-from}
 use Rattle.tomo_base.proofs.Walks.{Reaches-inside}
-use Rattle.blocks.proofs.Cutting.{Block}
+use Rattle.blocks.proofs.CutSets.{Block}
 use Rattle.blocks.proofs.Working.{block-from, block-to}
 use Rattle.split_tree.specs.declared.piece.Piece.{Piece}
 use Rattle.split_tree.specs.Pieces.{IsPieceOf}

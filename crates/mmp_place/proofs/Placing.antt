@@ -15,7 +15,7 @@ use Rattle.tomo_base.proofs.Members.{has-members}
 use Rattle.tomo_base.proofs.Reaching.{is_node, is_node-from}
 use Rattle.mmp_place.specs.Rule.{narrow, filled, filled_each, every_node, placed_by, IsLargeBlock, IsShortSet, PassesRule}
 use Rattle.mmp_place.specs.Laws.{FreeNodesAreNested}
-use Rattle.blocks.proofs.Cutting.{Block}
+use Rattle.blocks.proofs.CutSets.{Block}
 use Rattle.mmp_place.proofs.Nodes.{all_joined, size_every_node}
 use Rattle.mmp_place.proofs.Parts.{ThreeBlock, trim-same, block_of_nodes, three_block_of_nodes}
 use Rattle.mmp_place.proofs.Short.{free, ask, asked_not_short, not_short_asked, short-same}

@@ -95,8 +95,8 @@ fn fill_large(g: &Graph, sets: &NodeSets, m: &mut NodeSet) -> Result<(), NoMemor
 
 /// What the placement rule places: the nodes of degree below three, and then in each three-block, each block of at least three nodes
 /// and the set of all nodes the least nodes that do not count, until three count; a node counts if it is placed, or has a neighbour
-/// outside the set. That is the lowest set. Beside the search for blocks and three-blocks the time is nearly linear in nodes and links. After
-/// the placement MMP of Ma, He, Leung, Swami and Towsley (2013, 2014), with counts and ties of its own.
+/// outside the set. That is the lowest set. Beside the search for blocks and three-blocks the time is nearly linear in nodes and links.
+/// After the placement MMP of Ma, He, Leung, Swami and Towsley (2013, 2014), with counts and ties of its own.
 pub fn mmp(alloc: Global, g: &Graph) -> Result<NodeSet, NoMemory>
     requires connected { IsConnected g.now }
     requires three { 3 ≤ g.now.nodes }

@@ -38,8 +38,8 @@ impl PathPool {
         }
     }
 
-    /// Adds a path at the end, and answers its number. Earlier paths stay as they were. The path is copied; space grows by doubling, so the time
-    /// is on average that of the path's nodes.
+    /// Adds a path at the end, and answers its number. Earlier paths stay as they were. The path is copied; space grows by doubling, so
+    /// the time is on average that of the path's nodes.
     pub fn add(&mut self, path: &[u32]) -> Result<u32, NoMemory>
         requires paths { length self.old + 1 < 2 ^ 31 }
         requires nodes { nodes_in self.old + length path.now < 2 ^ 31 }

@@ -6,7 +6,7 @@ use Rattle.tomo_base.specs.Sets.{without, minus}
 use Rattle.tomo_base.proofs.Links.{linked_comm}
 use Rattle.tomo_base.specs.Parting.{IsClosedIn, AreJoinedIn, IsJoinedIn}
 use Rattle.tomo_base.proofs.Parting.{without-from, without-parts, minus-in, minus-out, joined-more, joined-sym}
-use Rattle.blocks.proofs.Cutting.{cond-on, cond-off}
+use Rattle.blocks.proofs.CutSets.{cond-on, cond-off}
 use Rattle.split_tree.proofs.Part.{Part}
 use Rattle.split_tree.proofs.Rigid.{Ends, ends, ends-true, zone, Owned}
 

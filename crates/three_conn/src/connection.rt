@@ -4,7 +4,7 @@ ghost use Rattle.std.specs.List.Sorted.{IsStrictlyIncreasing};
 ghost use Rattle.tomo_base.specs.Sets.{has};
 ghost use Rattle.three_conn.specs.Answers.{IsConn};
 
-use crate::probing::probe;
+use crate::probing::seek;
 use std::alloc::Global;
 use tomo_base::{Graph, NoMemory, NodeSet};
 
@@ -35,7 +35,7 @@ pub fn three_connected(alloc: Global, g: &Graph) -> Result<Conn, NoMemory>
     }
     let nodes = vec![in alloc; true; n as usize]?;
     let root = busiest(g);
-    match probe(alloc, g, &nodes, root)? {
+    match seek(alloc, g, &nodes, root)? {
         None => Ok(Conn::Yes),
         Some(parting) => Ok(Conn::Cut(pair(alloc, n, parting.first, parting.second)?)),
     }

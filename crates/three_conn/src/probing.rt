@@ -84,7 +84,12 @@ fn check(alloc: Global, g: &Graph, nodes: &[bool], root: u32) -> Result<Option<P
 }
 
 // Looks for two nodes that part a set of at least four nodes: lets the held nodes grow, and where all are held tries each with the root.
-fn seek(alloc: Global, g: &Graph, nodes: &[bool], root: u32) -> Result<Option<Parting>, NoMemory>
+pub fn seek(
+    alloc: Global,
+    g: &Graph,
+    nodes: &[bool],
+    root: u32,
+) -> Result<Option<Parting>, NoMemory>
     requires marks { length nodes.now ≡ g.now.nodes }
     requires four { 4 ≤ size g.now (mark_of nodes.now) }
     requires root { mark_of nodes.now root ≡ true }

@@ -1,5 +1,6 @@
 // The lowest sets of small graphs, by flows and by parts, and their home pockets, where memory is ample.
 use crate::shapes::{SHAPES, Shape, network_of};
+use drill::generate;
 use drop_place::place;
 use mmp_place::mmp;
 use pocket_bound::pockets;
@@ -50,6 +51,20 @@ fn lowest_sets_of_small_graphs(rt: HostRuntime) -> Result<(), Fail> {
 fn pockets_of_lowest_sets(rt: HostRuntime) -> Result<(), Fail> {
     for shape in SHAPES {
         assert!(rt; has_pockets(rt.alloc(), &shape)?);
+    }
+    Ok(())
+}
+
+#[test]
+fn both_placements_agree_on_drawn_networks(rt: HostRuntime) -> Result<(), Fail> {
+    for seed in 1..4u32 {
+        let g = generate(rt.alloc(), seed, 40, 60)?;
+        if g.nodes() >= 3 {
+            let by_flows = place(rt.alloc(), &g)?;
+            let by_parts = mmp(rt.alloc(), &g)?;
+            assert!(rt; by_flows.as_slice() == by_parts.as_slice());
+            assert!(rt; by_parts.len() > 0);
+        }
     }
     Ok(())
 }

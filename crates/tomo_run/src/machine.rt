@@ -138,10 +138,7 @@ fn take_monitors(
     ensures fewer { IfOk result (λ next. Fewer 1 next) }
 {
     match read_monitors(alloc, &topology, rows) {
-        Ok(monitors) => Ok(ready(FileInputs::OnMonitors(
-            task,
-            Placed { topology, monitors },
-        ))),
+        Ok(monitors) => Ok(ready(FileInputs::OnMonitors(task, Placed { topology, monitors }))),
         Err(fault) => Ok(Next::Stop(End::Refused(refuse_monitors(alloc, name, fault)?))),
     }
 }

@@ -11,8 +11,8 @@ use crate::laws::{
     a_printed_plan_is_reported_good, a_printed_plan_is_taken, a_printed_plan_names_no_path,
     printed_paths_are_reported_good,
 };
-use crate::table::shape_of;
 use crate::output::output_of;
+use crate::table::shape_of;
 use crate::write::write_all;
 use answers::Status;
 use outside::{Shelf, ShelfFault, Sink};

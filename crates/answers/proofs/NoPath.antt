@@ -13,7 +13,7 @@ use Rattle.link_solver.specs.declared.answer.Why.TheVariants.{Odd, Negative, Lar
 use Rattle.link_solver.specs.declared.answer.Answer.{Answer}
 use Rattle.link_solver.specs.declared.answer.Answer.TheVariants as answers
 use Rattle.answers.specs.declared.status.Status.{Status}
-use Rattle.answers.specs.Rounds.{Outcome, IsOutcome, AreOutcomes, IsNoPathRow, NameNoPath, Solves, ends_row, count_row, refused_count, round_row, solution_rows, told}
+use Rattle.answers.specs.Rounds.{Outcome, IsNoPathRow, NameNoPath, Solves, ends_row, count_row, refused_count, round_row, solution_rows, told}
 
 -- what is told of a round does not begin with the word of a path
 told_no_path : (a : Answer) (delays place : List ℕ) → NamesNoPath a → told a delays ≢ codes "path" ∷ place ∷ []
@@ -35,7 +35,8 @@ rounds_no_path : (k : ℕ) (outcomes : List Outcome) (number place : List ℕ) �
 unfolding numbered
 rounds_no_path k [] number place named = All-nil (IsNoPathRow number place)
 rounds_no_path k (o ∷ outcomes) number place named =
-    All-cons (IsNoPathRow number place) (round_row k o) (numbered round_row (k + 1) outcomes) (round_no_path k o number place (named 0 o (omega arith)))
+    All-cons (IsNoPathRow number place) (round_row k o) (numbered round_row (k + 1) outcomes)
+    (round_no_path k o number place (named 0 o (omega arith)))
     (rounds_no_path (k + 1) outcomes number place (λ i d l. named (suc i) d (omega (arith, l))))
 
 -- the row of a link is that of no round
@@ -62,7 +63,8 @@ solution_no_path t outcomes named number place =
     let count = count_row (length outcomes) (refused_count outcomes) in
     let rounds = numbered round_row 0 outcomes in
     let links = numbered (ends_row t.names) 0 t.graph.links in
-    let first = All-append P links rounds (links_no_path t.names 0 t.graph.links number place) (rounds_no_path 0 outcomes number place named) in
+    let of_links = links_no_path t.names 0 t.graph.links number place in
+    let first = All-append P links rounds of_links (rounds_no_path 0 outcomes number place named) in
     let last = All-cons P count [] (counts_no_path (length outcomes) (refused_count outcomes) number place) (All-nil P) in
     All-append P (links ++ rounds) (count ∷ []) first last
 

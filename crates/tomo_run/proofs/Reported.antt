@@ -29,7 +29,8 @@ use Rattle.tomo_run.specs.declared.machine.Next.{Next}
 told_good : GoodHasNoFault → (t : Topo) (p : PlanParts) (bound : ℕ) (status : Status) (rows : List Row)
     → IsGoodPlan t.names t.graph p → needs_of t.graph (pocket_sets p.pockets) ≡ bound → Reports t p status rows
     → (status ≡ Done) × (rows ≡ (codes "good" ∷ decimal (length p.monitors) ∷ decimal bound ∷ []) ∷ [])
-told_good no_fault t p bound status rows good shown (Good monitors most, report, is, row) = (is, rw (report.monitors_are, report.bound_is ∙ shown) at row)
+told_good no_fault t p bound status rows good shown (Good monitors most, report, is, row) =
+    (is, rw (report.monitors_are, report.bound_is ∙ shown) at row)
 told_good no_fault t p bound status rows good shown (Bad f, fault, is, row) = absurd (no_fault t p f good fault)
 
 -- the plan that is read is the one that was printed
@@ -38,21 +39,24 @@ rows_are_reported : GoodHasNoFault → (t : Topo) (p : PlanParts) (bound : ℕ) 
     → TakesPlan Check t name (rows_of (text_of (plan_rows p))) next → IsReportedGood p bound next
 rows_are_reported no_fault t p bound name next good shown kept (inl (q, formed, rows, on)) =
     let same : q ≡ p = kept.back.only q formed rows in
-    (Ready (OnFiles (files.Check (record { topology = t; plan = p }))), rw same at on, λ others status rows ends. told_good no_fault t p bound status rows good shown ends)
+    (Ready (OnFiles (files.Check (record { topology = t; plan = p }))), rw same at on,
+    λ others status rows ends. told_good no_fault t p bound status rows good shown ends)
 rows_are_reported no_fault t p bound name next good shown kept (inr (f, some, first, refused)) = absurd (some (kept.back.fine f first))
 
 -- its text is within the limit
 text_is_reported : GoodHasNoFault → (t : Topo) (p : PlanParts) (bound : ℕ) (name : List ℕ) (next : Next)
     → IsGoodPlan t.names t.graph p → needs_of t.graph (pocket_sets p.pockets) ≡ bound → IsKept p
     → Steps (APlan Check t) name (text_of (plan_rows p)) next → IsReportedGood p bound next
-text_is_reported no_fault t p bound name next good shown kept steps = elim (cases_Bool (nat_lt (limit PlanFile) (length (text_of (plan_rows p))))) [
+text_is_reported no_fault t p bound name next good shown kept steps =
+    elim (cases_Bool (nat_lt (limit PlanFile) (length (text_of (plan_rows p))))) [
   | inl long ↦ absurd (omega (arith, ltb-true (limit PlanFile) (length (text_of (plan_rows p))) long, kept.short))
   | inr short ↦ rows_are_reported no_fault t p bound name next good shown kept (rw short at steps)
 ]
 
 -- the pockets of a plan as promised show that all its monitors are needed
 pub printed_is_reported_good : GoodHasNoFault → PrintedIsReportedGood
-printed_is_reported_good no_fault t p name next planned kept steps = text_is_reported no_fault t p (length p.monitors) name next planned.good planned.shown.total kept steps
+printed_is_reported_good no_fault t p name next planned kept steps =
+    text_is_reported no_fault t p (length p.monitors) name next planned.good planned.shown.total kept steps
 
 -- a plan for given monitors has no pockets
 pub paths_are_reported_good : GoodHasNoFault → PathsAreReportedGood

@@ -3,14 +3,13 @@ use Rattle.std.proofs.Common.{◌≡◌, sym, subst, ℕ, List, [], ◌∷◌, n
 use Rattle.std.specs.Prelude.{codes, decimal}
 use Rattle.std.proofs.lemmas.Bool.{cases_Bool}
 use Rattle.std.proofs.lemmas.List.Elements.{All-nil, All-cons}
-use Rattle.rows.specs.Rows.{Row, RowList, rows_of}
+use Rattle.rows.specs.Rows.{Row, rows_of}
 use Rattle.topology.specs.Topology.{Topo}
 use Rattle.plan_form.specs.Parts.{PlanParts}
 use Rattle.plan_form.specs.Good.{IsGoodPlan}
 use Rattle.plan_form.specs.Tied.{AreTied}
 use Rattle.cert_check.specs.Laws.{GoodHasNoFault}
 use Rattle.answers.specs.FileKinds.{limit}
-use Rattle.answers.specs.Planning.{IsKept}
 use Rattle.answers.specs.Refusals.{refused, round_reason, round_place}
 use Rattle.answers.specs.Rounds.{IsNoPathRow, NameNoPath}
 use Rattle.answers.specs.declared.file_kind.FileKind.TheVariants.{RoundFile}
@@ -45,18 +44,22 @@ refusal_no_path word reason place end others status rows is ends =
     let printed = (subst (λ (x : End). Ends others x status rows) same ends).1 in
     subst NameNoPath (sym printed) (refused_no_path word reason place)
 
+-- its plan is tied
+abbrev IsTied : Checked → Type 0
+IsTied c = AreTied c.topology.graph.links c.plan.paths c.plan.recipes
+
 -- what is printed where the rounds were read
-read_no_path : (c : Checked) (file : List ℕ) (content : List Row) (end : End) (others : List (List ℕ)) (status : Status) (rows : List Row) → AreTied c.topology.graph.links c.plan.paths c.plan.recipes
-    → TakesSums c file content (Stop end) → Ends others end status rows → NameNoPath rows
+read_no_path : (c : Checked) (file : List ℕ) (content : List Row) (end : End) (others : List (List ℕ)) (status : Status) (rows : List Row)
+    → IsTied c → TakesSums c file content (Stop end) → Ends others end status rows → NameNoPath rows
 read_no_path c file content end others status rows tied (inl (m, over, rounds, is)) ends =
     let same : end ≡ Ready (OnFiles (files.Solve m)) = cc is in
     let solves = subst (λ (x : End). Ends others x status rows) same ends in
-    solves_no_path m.checked.topology m.checked.plan m.rounds status rows (subst (λ (c : Checked). AreTied c.topology.graph.links c.plan.paths c.plan.recipes) (sym over) tied) solves
-read_no_path c file content end others status rows tied (inr (f, some, first, is)) ends = refusal_no_path file (round_reason f) (round_place f) end others status rows is ends
+    solves_no_path m.checked.topology m.checked.plan m.rounds status rows (subst IsTied (sym over) tied) solves
+read_no_path c file content end others status rows tied (inr (f, some, first, is)) ends =
+    refusal_no_path file (round_reason f) (round_place f) end others status rows is ends
 
 -- what is printed after the file of rounds, whatever it holds
-sums_no_path : (c : Checked) → AreTied c.topology.graph.links c.plan.paths c.plan.recipes
-    → (file content : List ℕ) (end : End) (others : List (List ℕ)) (status : Status) (rows : List Row)
+sums_no_path : (c : Checked) → IsTied c → (file content : List ℕ) (end : End) (others : List (List ℕ)) (status : Status) (rows : List Row)
     → Steps (Sums c) file content (Stop end) → Ends others end status rows → NameNoPath rows
 sums_no_path c tied file content end others status rows steps ends = elim (cases_Bool (nat_lt (limit RoundFile) (length content))) [
   | inl long ↦ refusal_no_path file (codes "long") (decimal (limit RoundFile)) end others status rows (rw long at steps) ends

@@ -1,5 +1,5 @@
 -- What is answered where a drill is asked for.
-use Rattle.std.specs.Prelude.{ℕ, ◌≡◌, ◌+◌, ◌^◌, ◌&&◌, List, Bool, nat_lt, nat_le}
+use Rattle.std.specs.Prelude.{◌≡◌, ◌+◌, ◌^◌, ◌&&◌, List, Bool, nat_lt, nat_le}
 use Rattle.rows.specs.Rows.{Row}
 use Rattle.drill.specs.Drill.{IsDrill}
 use Rattle.drill.specs.Generated.{pair_count}

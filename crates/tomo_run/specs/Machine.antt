@@ -1,5 +1,5 @@
 -- How one file after the other is taken in.
-use Rattle.std.specs.Prelude.{ℕ, ◌≡◌, ◌≢◌, ◌+◌, ◌<◌, ◌⊎◌, List, length, codes, decimal, Bool, true, Option, nat_lt, Ok, MatchBool}
+use Rattle.std.specs.Prelude.{ℕ, ◌≡◌, ◌≢◌, ◌+◌, ◌<◌, ◌⊎◌, List, length, codes, decimal, Bool, Option, nat_lt, Ok, MatchBool}
 use Rattle.outside.specs.Shelf.{Files, Gives, Tells}
 use Rattle.outside.specs.declared.shelf.Got.{Got}
 use Rattle.rows.specs.Rows.{Row, rows_of}

@@ -1,5 +1,5 @@
 // Numbers among the words.
-ghost use Rattle.std.specs.Prelude.{◌≡◌, ◌<◌, [], length, Some, None, slice_index_or, if◌then◌else◌};
+ghost use Rattle.std.specs.Prelude.{◌≡◌, ◌<◌, [], length, Some, None, slice_index_or};
 ghost use Rattle.tomo_run.specs.Numbers.{number_of, numbers_of};
 ghost use Rattle.answers.specs.Drilling.{fit};
 

@@ -1,7 +1,6 @@
 // The table of commands: the words that each takes, and the shape of a command line.
 ghost use Rattle.std.specs.Prelude.{◌≡◌, ◌<◌, ◌≤◌, [], length, drop, Option, Some, slice_index_or};
 ghost use Rattle.tomo_run.specs.Table.{task_of, files_of, other_words as words_behind, first_place, begins_option, no_options, shaped, drill_shape as shape_of_drill, shape, shape as shape_in, last_words};
-ghost use Rattle.answers.specs.FileKinds.{limit};
 
 use crate::numbers::drill_numbers;
 use answers::{DrillNumbers, MonitorTask, TopologyTask};

@@ -1,4 +1,3 @@
-use Rattle.std.proofs.Common.{◌≡◌, ◌≤◌, length, arith}
 use Rattle.mmp_place.proofs.Parts.{three_blocks_of_piece}
 use Rattle.answers.proofs.ThreeBlocks.{few_sets}
 use Rattle.answers.proofs.parts.three_blocks_in.Goals as goal

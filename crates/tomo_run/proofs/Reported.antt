@@ -38,9 +38,11 @@ rows_are_reported : GoodHasNoFault → (t : Topo) (p : PlanParts) (bound : ℕ) 
     → IsGoodPlan t.names t.graph p → needs_of t.graph (pocket_sets p.pockets) ≡ bound → IsKept p
     → TakesPlan Check t name (rows_of (text_of (plan_rows p))) next → IsReportedGood p bound next
 rows_are_reported no_fault t p bound name next good shown kept (inl (q, formed, rows, on)) =
-    let same : q ≡ p = kept.back.only q formed rows in
-    (Ready (OnFiles (files.Check (record { topology = t; plan = p }))), rw same at on,
-    λ others status rows ends. told_good no_fault t p bound status rows good shown ends)
+    let same : q ≡ p = kept.back.only q formed rows in (
+      Ready (OnFiles (files.Check (record { topology = t; plan = p }))),
+      rw same at on,
+      λ others status rows ends. told_good no_fault t p bound status rows good shown ends,
+    )
 rows_are_reported no_fault t p bound name next good shown kept (inr (f, some, first, refused)) = absurd (some (kept.back.fine f first))
 
 -- its text is within the limit
@@ -49,9 +51,9 @@ text_is_reported : GoodHasNoFault → (t : Topo) (p : PlanParts) (bound : ℕ) (
     → Steps (APlan Check t) name (text_of (plan_rows p)) next → IsReportedGood p bound next
 text_is_reported no_fault t p bound name next good shown kept steps =
     elim (cases_Bool (nat_lt (limit PlanFile) (length (text_of (plan_rows p))))) [
-  | inl long ↦ absurd (omega (arith, ltb-true (limit PlanFile) (length (text_of (plan_rows p))) long, kept.short))
-  | inr short ↦ rows_are_reported no_fault t p bound name next good shown kept (rw short at steps)
-]
+      | inl long ↦ absurd (omega (arith, ltb-true (limit PlanFile) (length (text_of (plan_rows p))) long, kept.short))
+      | inr short ↦ rows_are_reported no_fault t p bound name next good shown kept (rw short at steps)
+    ]
 
 -- the pockets of a plan as promised show that all its monitors are needed
 pub printed_is_reported_good : GoodHasNoFault → PrintedIsReportedGood

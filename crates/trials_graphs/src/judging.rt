@@ -89,16 +89,18 @@ fn judged_thrice(alloc: Global, g: &Graph, m: &NodeSet) -> Result<[bool; 3], NoM
 #[test]
 fn flows_and_the_extended_graph_judge_alike(rt: HostRuntime) -> Result<(), Fail> {
     let m = set_of(rt.alloc(), &[0, 1, 2, 3, 4])?;
-    let mut yes = 0u32;
+    let mut some_yes = false;
+    let mut some_no = false;
     for seed in 0..40u32 {
         let g = generate(rt.alloc(), seed, 10, 20)?;
         if g.nodes() >= 3 && lies_in(&g, &m) {
             let judged = judged_thrice(rt.alloc(), &g, &m)?;
             assert!(rt; judged == [judged[0]; 3]);
-            yes += u32::from(judged[0]);
+            some_yes = some_yes || judged[0];
+            some_no = some_no || !judged[0];
         }
     }
-    assert!(rt; yes > 0);
-    assert!(rt; yes < 40);
+    assert!(rt; some_yes);
+    assert!(rt; some_no);
     Ok(())
 }

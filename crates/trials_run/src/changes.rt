@@ -1,0 +1,179 @@
+// A plan of two links with one change, and rounds over the plan of a star as people may write them.
+use crate::stage::{Case, all_hold, run};
+use crate::texts::{STAR, STAR_PLAN, TWO_LINKS, TWO_LINKS_PLAN};
+use std::alloc::Global;
+use std::test::Fail;
+use tomo_run::Status;
+
+const SEVENTEEN_TERMS: &[u8] =
+    b"recipe,0,1:0 1:0 1:0 1:0 1:0 1:0 1:0 1:0 1:0 1:0 1:0 1:0 1:0 1:0 1:0 1:0 1:0";
+
+// The number of a row of the plan of two links, counted from 1, what stands in its place, and what `check` says. An empty row is passed
+// over.
+const CHANGES: [(usize, &[u8], Status, &[u8]); 21] = [
+    (1, b"plan,9", Status::BadInput, b"refused,p,record,1\n"),
+    (2, b"node,1,a", Status::BadInput, b"refused,p,order,2\n"),
+    (
+        5,
+        b"link,0,0,4294967296",
+        Status::BadInput,
+        b"refused,p,number,5\n",
+    ),
+    (5, b"link,0,0,01", Status::BadInput, b"refused,p,number,5\n"),
+    (5, b"link,0,1,0", Status::Negative, b"bad,links,0\n"),
+    (
+        7,
+        b"monitor,4294967295",
+        Status::Negative,
+        b"bad,monitor,0\n",
+    ),
+    (8, b"monitor,0", Status::Negative, b"bad,monitor,1\n"),
+    (10, b"pocket,0,1,3", Status::Negative, b"bad,pocket,0\n"),
+    (10, b"pocket,0,2,0", Status::Negative, b"bad,pocket,0\n"),
+    (11, b"pocket,1,1,0", Status::Negative, b"bad,pocket,1\n"),
+    (13, b"path,0,0", Status::Negative, b"bad,path,0\n"),
+    (13, b"path,0,1 0", Status::Negative, b"bad,path,0\n"),
+    (14, b"path,1,0 1", Status::Negative, b"bad,path,1\n"),
+    (
+        15,
+        b"recipe,0,5:0",
+        Status::BadInput,
+        b"refused,p,number,15\n",
+    ),
+    (
+        15,
+        b"recipe,0,+2:0",
+        Status::BadInput,
+        b"refused,p,number,15\n",
+    ),
+    (
+        15,
+        SEVENTEEN_TERMS,
+        Status::BadInput,
+        b"refused,p,number,15\n",
+    ),
+    (15, b"recipe,0,2:7", Status::Negative, b"bad,recipe,0\n"),
+    (15, b"recipe,0,1:0 1:0", Status::Negative, b"bad,recipe,0\n"),
+    (16, b"", Status::Negative, b"bad,recipe,1\n"),
+    (
+        16,
+        b"recipe,1,2:1\nrecipe,2,2:0",
+        Status::Negative,
+        b"bad,recipe,2\n",
+    ),
+    (17, b"end,x", Status::BadInput, b"refused,p,record,17\n"),
+];
+
+// The plan of two links with other bytes in place of the row with a number.
+fn changed(alloc: Global, number: usize, row: &[u8]) -> Result<Vec<u8>, Fail> {
+    let mut text = Vec::new(alloc);
+    let mut place = 0usize;
+    for line in TWO_LINKS_PLAN.split(|byte| *byte == b'\n') {
+        place = place.wrapping_add(1);
+        text.extend_from_slice(if place == number { row } else { line })?;
+        text.push(b'\n')?;
+    }
+    Ok(text)
+}
+
+#[test]
+fn one_change_of_a_plan_is_told(rt: HostRuntime) -> Result<(), Fail> {
+    for (number, row, status, output) in CHANGES {
+        let plan = changed(rt.alloc(), number, row)?;
+        let files = [("t", TWO_LINKS), ("p", plan.as_slice())];
+        let (ended, sink) = run(rt.alloc(), &["check", "t", "p"], &files)?;
+        assert_eq!(rt; sink.bytes(), output, "row {number}");
+        assert!(rt; ended == status);
+    }
+    Ok(())
+}
+
+const SHORT: [Case; 4] = [
+    Case {
+        words: &["check", "t", "p"],
+        files: &[("t", TWO_LINKS), ("p", b"")],
+        status: Status::BadInput,
+        output: b"refused,p,missing,0\n",
+    },
+    Case {
+        words: &["check", "t", "p"],
+        files: &[("t", TWO_LINKS), ("p", b"end\n")],
+        status: Status::BadInput,
+        output: b"refused,p,order,1\n",
+    },
+    Case {
+        words: &["check", "t", "p"],
+        files: &[("t", TWO_LINKS), ("p", b"plan,1\nend\nend\n")],
+        status: Status::BadInput,
+        output: b"refused,p,after,3\n",
+    },
+    Case {
+        words: &["check", "t", "p"],
+        files: &[("t", TWO_LINKS), ("p", b"plan,1\nend\n")],
+        status: Status::Negative,
+        output: b"bad,names,0\n",
+    },
+];
+
+#[test]
+fn plans_of_few_rows_are_told(rt: HostRuntime) -> Result<(), Fail> {
+    assert!(rt; all_hold(rt.alloc(), &SHORT)?);
+    Ok(())
+}
+
+#[test]
+fn a_second_end_is_refused(rt: HostRuntime) -> Result<(), Fail> {
+    let plan = changed(rt.alloc(), 17, b"end\nend")?;
+    let files = [("t", TWO_LINKS), ("p", plan.as_slice())];
+    let (status, sink) = run(rt.alloc(), &["check", "t", "p"], &files)?;
+    assert!(rt; status == Status::BadInput);
+    assert!(rt; sink.bytes() == b"refused,p,after,18\n".as_slice());
+    Ok(())
+}
+
+const ROUNDS: [Case; 5] = [
+    Case {
+        words: &["solve", "t", "p", "r"],
+        files: &[("t", STAR), ("p", STAR_PLAN), ("r", b"005, 6 ,7\n")],
+        status: Status::Done,
+        output: b"link,0,c,x\nlink,1,c,y\nlink,2,c,z\nround,0,ok,2,3,4\nend,1,0\n",
+    },
+    Case {
+        words: &["solve", "t", "p", "r"],
+        files: &[("t", STAR), ("p", STAR_PLAN), ("r", b"5,-1,7\n")],
+        status: Status::BadInput,
+        output: b"refused,r,number,1 2\n",
+    },
+    Case {
+        words: &["solve", "t", "p", "r"],
+        files: &[
+            ("t", STAR),
+            ("p", STAR_PLAN),
+            ("r", b"5,99999999999999999999,7\n"),
+        ],
+        status: Status::BadInput,
+        output: b"refused,r,number,1 2\n",
+    },
+    Case {
+        words: &["solve", "t", "p", "r"],
+        files: &[
+            ("t", STAR),
+            ("p", STAR_PLAN),
+            ("r", b"5,6,000000000000000000007\n"),
+        ],
+        status: Status::BadInput,
+        output: b"refused,r,number,1 3\n",
+    },
+    Case {
+        words: &["solve", "t", "p", "r"],
+        files: &[("t", STAR), ("p", STAR_PLAN), ("r", b"5,6,7\n5,6\n")],
+        status: Status::BadInput,
+        output: b"refused,r,width,2\n",
+    },
+];
+
+#[test]
+fn rounds_are_read_as_people_write_them(rt: HostRuntime) -> Result<(), Fail> {
+    assert!(rt; all_hold(rt.alloc(), &ROUNDS)?);
+    Ok(())
+}

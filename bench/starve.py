@@ -1,9 +1,12 @@
 #!/usr/bin/env python3
-"""Lets one allocation after the other fail in the built program, on the examples: it must end with status 6 and print nothing.
+"""Lets one allocation after the other fail in the built program, for every command on the examples and on a network of 40 nodes: it must
+end with status 6 and print nothing.
 
     bench/starve.py [PROGRAM]     needs a C compiler (cc), which makes the malloc that fails
 """
+import csv
 import os
+import random
 import subprocess
 import sys
 import tempfile
@@ -49,26 +52,64 @@ __attribute__((destructor)) static void tell(void) {
 """
 
 
-def runs_in(work):
-    """The words of each run; plans and monitors stand in the folder."""
-    hub, campus = EXAMPLES + "hub.csv", EXAMPLES + "campus.csv"
-    plan, bad, monitors = work + "/plan.csv", work + "/bad.csv", work + "/monitors.csv"
+def drawn_network(path):
+    """A connected network of 40 nodes and 60 links, the same at each run."""
+    draw = random.Random(40)
+    links = {(draw.randrange(node), node) for node in range(1, 40)}
+    while len(links) < 60:
+        low, high = sorted(draw.sample(range(40), 2))
+        links.add((low, high))
+    with open(path, "w") as file:
+        file.writelines(f"n{a},n{b}\n" for a, b in sorted(links))
+
+
+def write_inputs(plan, work, name):
+    """Writes the plan, its monitors by name, and three rounds over it, the last of which no delays have."""
+    rows = [line.split(",", 2) for line in plan.decode().splitlines()]
+    nodes = [row[2] for row in rows if row[0] == "node"]
+    count = sum(row[0] == "path" for row in rows)
+    with open(f"{work}/{name}_plan.csv", "wb") as file:
+        file.write(plan)
+    with open(f"{work}/{name}_monitors.csv", "w") as file:
+        file.writelines(nodes[int(row[1])] + "\n" for row in rows if row[0] == "monitor")
+    with open(f"{work}/{name}_rounds.csv", "w") as file:
+        for sums in ["0"] * count, ["2"] * count, ["1"] * (count - 1) + ["4"]:
+            file.write(",".join(sums) + "\n")
+
+
+def runs_over(header, topology, work, name):
+    """The words of a run of each command over a topology; its plan, monitors and rounds stand in the folder."""
+    first = [*header, topology]
+    plan, monitors, rounds = (f"{work}/{name}_{kind}.csv" for kind in ("plan", "monitors", "rounds"))
+    with open(plan, encoding="utf-8") as file:
+        rows = list(csv.reader(file))
+    names = [row[2] for row in rows if row[0] == "node"]
+    link = next(row for row in rows if row[0] == "link")
+    ends = [names[int(link[2])], names[int(link[3])]]
     return [
-        ["plan", EXAMPLES + "two_links.csv"],
-        ["plan", "--header", EXAMPLES + "ring.csv"],
-        ["plan", hub],
+        ["plan", *first],
+        ["components", *first],
+        ["trees", *first],
+        ["judge", *first, monitors],
+        ["paths", *first, monitors],
+        ["link", *first, monitors, *ends],
+        ["check", *first, plan],
+        ["solve", *first, plan, rounds],
+    ]
+
+
+def refused_runs(work):
+    """The words of runs that end with a no or a refusal."""
+    hub, campus = EXAMPLES + "hub.csv", EXAMPLES + "campus.csv"
+    return [
         ["judge", "--header", campus, EXAMPLES + "campus_monitors.csv"],
-        ["components", "--header", campus],
-        ["trees", hub],
-        ["judge", hub, monitors],
-        ["paths", hub, monitors],
-        ["link", hub, monitors, "hub", "c"],
-        ["link", hub, monitors, "nobody", "c"],
-        ["check", hub, plan],
-        ["check", hub, bad],
-        ["solve", hub, plan, EXAMPLES + "hub_rounds.csv"],
-        ["solve", hub, bad, EXAMPLES + "hub_rounds.csv"],
+        ["paths", "--header", campus, EXAMPLES + "campus_monitors.csv"],
+        ["link", hub, f"{work}/hub_monitors.csv", "nobody", "c"],
+        ["check", hub, f"{work}/bad_plan.csv"],
+        ["solve", hub, f"{work}/bad_plan.csv", EXAMPLES + "hub_rounds.csv"],
+        ["plan", f"{work}/hub_plan.csv"],
         ["drill", "1", "3", "3"],
+        ["drill", "7", "40", "60"],
     ]
 
 
@@ -78,15 +119,23 @@ def main():
         with open(work + "/malloc.c", "w") as file:
             file.write(MALLOC)
         subprocess.run(["cc", "-O2", "-shared", "-fPIC", "-o", work + "/malloc.so", work + "/malloc.c", "-ldl"], check=True)
-        plan = subprocess.run([program, "plan", EXAMPLES + "hub.csv"], stdout=subprocess.PIPE, check=True).stdout
-        for name, content in ("plan.csv", plan), ("bad.csv", plan.replace(b"recipe,3,2:2", b"recipe,3,2:1")), ("monitors.csv", b"a\nb\nc\n"):
-            with open(work + "/" + name, "wb") as file:
-                file.write(content)
+        drawn_network(f"{work}/drawn.csv")
+        header = ["--header"]
+        topologies = [("two_links", [], EXAMPLES), ("ring", header, EXAMPLES), ("hub", [], EXAMPLES), ("campus", header, EXAMPLES), ("drawn", [], work + "/")]
+        runs = []
+        for name, option, place in topologies:
+            topology = f"{place}{name}.csv"
+            plan = subprocess.run([program, "plan", *option, topology], stdout=subprocess.PIPE, check=True).stdout
+            write_inputs(plan, work, name)
+            runs += runs_over(option, topology, work, name)
+        with open(f"{work}/hub_plan.csv", "rb") as file, open(f"{work}/bad_plan.csv", "wb") as bad:
+            bad.write(file.read().replace(b"recipe,3,2:2", b"recipe,3,2:1"))
+        runs += refused_runs(work)
 
         def run(words, **more):
             return subprocess.run([program] + words, capture_output=True, env=dict(os.environ, LD_PRELOAD=work + "/malloc.so", **more))
 
-        for words in runs_in(work):
+        for words in runs:
             run(words, COUNT_TO=work + "/count")
             with open(work + "/count") as file:
                 count = int(file.read())

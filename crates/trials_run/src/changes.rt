@@ -1,6 +1,6 @@
-// A plan of two links with one change, and rounds over the plan of a star as people may write them.
-use crate::stage::{Case, all_hold, run};
-use crate::texts::{STAR, STAR_PLAN, TWO_LINKS, TWO_LINKS_PLAN};
+// A plan of two links with one change.
+use crate::stage::run;
+use crate::texts::{TWO_LINKS, TWO_LINKS_PLAN};
 use std::alloc::Global;
 use std::test::Fail;
 use tomo_run::Status;
@@ -76,104 +76,46 @@ fn changed(alloc: Global, number: usize, row: &[u8]) -> Result<Vec<u8>, Fail> {
     Ok(text)
 }
 
+// Whether `check` of a plan for two links ends and writes so.
+fn is_checked(alloc: Global, plan: &[u8], status: Status, output: &[u8]) -> Result<bool, Fail> {
+    let files = [("t", TWO_LINKS), ("p", plan)];
+    let (ended, sink) = run(alloc, &["check", "t", "p"], &files)?;
+    Ok(ended == status && sink.bytes() == output)
+}
+
 #[test]
 fn one_change_of_a_plan_is_told(rt: HostRuntime) -> Result<(), Fail> {
     for (number, row, status, output) in CHANGES {
         let plan = changed(rt.alloc(), number, row)?;
-        let files = [("t", TWO_LINKS), ("p", plan.as_slice())];
-        let (ended, sink) = run(rt.alloc(), &["check", "t", "p"], &files)?;
-        assert_eq!(rt; sink.bytes(), output, "row {number}");
-        assert!(rt; ended == status);
+        let told = is_checked(rt.alloc(), &plan, status, output)?;
+        assert_eq!(rt; told, true, "row {number}");
     }
     Ok(())
 }
 
-const SHORT: [Case; 4] = [
-    Case {
-        words: &["check", "t", "p"],
-        files: &[("t", TWO_LINKS), ("p", b"")],
-        status: Status::BadInput,
-        output: b"refused,p,missing,0\n",
-    },
-    Case {
-        words: &["check", "t", "p"],
-        files: &[("t", TWO_LINKS), ("p", b"end\n")],
-        status: Status::BadInput,
-        output: b"refused,p,order,1\n",
-    },
-    Case {
-        words: &["check", "t", "p"],
-        files: &[("t", TWO_LINKS), ("p", b"plan,1\nend\nend\n")],
-        status: Status::BadInput,
-        output: b"refused,p,after,3\n",
-    },
-    Case {
-        words: &["check", "t", "p"],
-        files: &[("t", TWO_LINKS), ("p", b"plan,1\nend\n")],
-        status: Status::Negative,
-        output: b"bad,names,0\n",
-    },
+// Plans of few rows, and what `check` says of them.
+const SHORT: [(&[u8], Status, &[u8]); 4] = [
+    (b"", Status::BadInput, b"refused,p,missing,0\n"),
+    (b"end\n", Status::BadInput, b"refused,p,order,1\n"),
+    (
+        b"plan,1\nend\nend\n",
+        Status::BadInput,
+        b"refused,p,after,3\n",
+    ),
+    (b"plan,1\nend\n", Status::Negative, b"bad,names,0\n"),
 ];
 
 #[test]
 fn plans_of_few_rows_are_told(rt: HostRuntime) -> Result<(), Fail> {
-    assert!(rt; all_hold(rt.alloc(), &SHORT)?);
+    for (plan, status, output) in SHORT {
+        assert!(rt; is_checked(rt.alloc(), plan, status, output)?);
+    }
     Ok(())
 }
 
 #[test]
 fn a_second_end_is_refused(rt: HostRuntime) -> Result<(), Fail> {
     let plan = changed(rt.alloc(), 17, b"end\nend")?;
-    let files = [("t", TWO_LINKS), ("p", plan.as_slice())];
-    let (status, sink) = run(rt.alloc(), &["check", "t", "p"], &files)?;
-    assert!(rt; status == Status::BadInput);
-    assert!(rt; sink.bytes() == b"refused,p,after,18\n".as_slice());
-    Ok(())
-}
-
-const ROUNDS: [Case; 5] = [
-    Case {
-        words: &["solve", "t", "p", "r"],
-        files: &[("t", STAR), ("p", STAR_PLAN), ("r", b"005, 6 ,7\n")],
-        status: Status::Done,
-        output: b"link,0,c,x\nlink,1,c,y\nlink,2,c,z\nround,0,ok,2,3,4\nend,1,0\n",
-    },
-    Case {
-        words: &["solve", "t", "p", "r"],
-        files: &[("t", STAR), ("p", STAR_PLAN), ("r", b"5,-1,7\n")],
-        status: Status::BadInput,
-        output: b"refused,r,number,1 2\n",
-    },
-    Case {
-        words: &["solve", "t", "p", "r"],
-        files: &[
-            ("t", STAR),
-            ("p", STAR_PLAN),
-            ("r", b"5,99999999999999999999,7\n"),
-        ],
-        status: Status::BadInput,
-        output: b"refused,r,number,1 2\n",
-    },
-    Case {
-        words: &["solve", "t", "p", "r"],
-        files: &[
-            ("t", STAR),
-            ("p", STAR_PLAN),
-            ("r", b"5,6,000000000000000000007\n"),
-        ],
-        status: Status::BadInput,
-        output: b"refused,r,number,1 3\n",
-    },
-    Case {
-        words: &["solve", "t", "p", "r"],
-        files: &[("t", STAR), ("p", STAR_PLAN), ("r", b"5,6,7\n5,6\n")],
-        status: Status::BadInput,
-        output: b"refused,r,width,2\n",
-    },
-];
-
-#[test]
-fn rounds_are_read_as_people_write_them(rt: HostRuntime) -> Result<(), Fail> {
-    assert!(rt; all_hold(rt.alloc(), &ROUNDS)?);
+    assert!(rt; is_checked(rt.alloc(), &plan, Status::BadInput, b"refused,p,after,18\n")?);
     Ok(())
 }

@@ -1,70 +1,49 @@
 // Plans, and paths for given monitors.
-use crate::stage::{Case, all_hold, lines_of, plan_begins, run, run_over_plan};
+use crate::stage::{lines_of, plan_begins, run, run_over_plan};
 use crate::texts::{
     CAMPUS, COMPLETE, COMPLETE_PLAN, COMPLETE_WITH_A_LEAF, RING, RING_PLAN, SHARING_A_NODE,
     SHARING_A_PAIR, STAR, STAR_PATHS, STAR_PLAN, TRIANGLES, TWO_LINKS, TWO_LINKS_PLAN,
 };
+use std::alloc::Global;
 use std::test::Fail;
 use tomo_run::Status;
 
-const WHOLE: [Case; 4] = [
-    Case {
-        words: &["plan", "t"],
-        files: &[("t", TWO_LINKS)],
-        status: Status::Done,
-        output: TWO_LINKS_PLAN,
-    },
-    Case {
-        words: &["plan", "t"],
-        files: &[("t", RING)],
-        status: Status::Done,
-        output: RING_PLAN,
-    },
-    Case {
-        words: &["plan", "t"],
-        files: &[("t", STAR)],
-        status: Status::Done,
-        output: STAR_PLAN,
-    },
-    Case {
-        words: &["plan", "t"],
-        files: &[("t", COMPLETE)],
-        status: Status::Done,
-        output: COMPLETE_PLAN,
-    },
+// Whether these words over a topology write this plan.
+fn is_planned(alloc: Global, words: &[&str], topology: &[u8], plan: &[u8]) -> Result<bool, Fail> {
+    let (status, sink) = run(alloc, words, &[("t", topology)])?;
+    Ok(status == Status::Done && sink.bytes() == plan)
+}
+
+const WHOLE: [(&[u8], &[u8]); 4] = [
+    (TWO_LINKS, TWO_LINKS_PLAN),
+    (RING, RING_PLAN),
+    (STAR, STAR_PLAN),
+    (COMPLETE, COMPLETE_PLAN),
 ];
 
 #[test]
 fn small_networks_are_planned(rt: HostRuntime) -> Result<(), Fail> {
-    assert!(rt; all_hold(rt.alloc(), &WHOLE)?);
+    for (topology, plan) in WHOLE {
+        assert!(rt; is_planned(rt.alloc(), &["plan", "t"], topology, plan)?);
+    }
     Ok(())
 }
 
 // One topology, as people write it.
-const SPELLED: [Case; 3] = [
-    Case {
-        words: &["plan", "t"],
-        files: &[("t", b"\"a\",b\r\nb,c,7\r\n")],
-        status: Status::Done,
-        output: TWO_LINKS_PLAN,
-    },
-    Case {
-        words: &["plan", "--header", "t"],
-        files: &[("t", b"\xef\xbb\xbffrom,to\na,b\nb,c\n")],
-        status: Status::Done,
-        output: TWO_LINKS_PLAN,
-    },
-    Case {
-        words: &["plan", "t"],
-        files: &[("t", b"a,b\nb,a\n\nb,c,12\nc,b\n")],
-        status: Status::Done,
-        output: TWO_LINKS_PLAN,
-    },
+const SPELLED: [(&[&str], &[u8]); 3] = [
+    (&["plan", "t"], b"\"a\",b\r\nb,c,7\r\n"),
+    (
+        &["plan", "--header", "t"],
+        b"\xef\xbb\xbffrom,to\na,b\nb,c\n",
+    ),
+    (&["plan", "t"], b"a,b\nb,a\n\nb,c,12\nc,b\n"),
 ];
 
 #[test]
 fn links_may_be_spelled_in_several_ways(rt: HostRuntime) -> Result<(), Fail> {
-    assert!(rt; all_hold(rt.alloc(), &SPELLED)?);
+    for (words, topology) in SPELLED {
+        assert!(rt; is_planned(rt.alloc(), words, topology, TWO_LINKS_PLAN)?);
+    }
     Ok(())
 }
 
@@ -137,32 +116,27 @@ fn a_campus_has_as_many_paths_as_links(rt: HostRuntime) -> Result<(), Fail> {
     Ok(())
 }
 
-const GIVEN: [Case; 3] = [
-    Case {
-        words: &["paths", "t", "m"],
-        files: &[("t", STAR), ("m", b"x\ny\nz\nx\n")],
-        status: Status::Done,
-        output: STAR_PATHS,
-    },
-    Case {
-        words: &["paths", "t", "m"],
-        files: &[("t", STAR), ("m", b"x\ny\n")],
-        status: Status::Negative,
-        output: b"bad,c,z\n",
-    },
-    Case {
-        words: &["paths", "t", "m"],
-        files: &[("t", COMPLETE), ("m", b"a\nb\nc\nd\n")],
-        status: Status::Done,
-        output: b"plan,1\nnode,0,a\nnode,1,b\nnode,2,c\nnode,3,d\nlink,0,0,1\nlink,1,0,2\nlink,2,0,3\nlink,3,1,2\nlink,4,1,3\n\
+// A topology and monitors, and what `paths` says.
+const GIVEN: [([&[u8]; 2], Status, &[u8]); 3] = [
+    ([STAR, b"x\ny\nz\nx\n"], Status::Done, STAR_PATHS),
+    ([STAR, b"x\ny\n"], Status::Negative, b"bad,c,z\n"),
+    (
+        [COMPLETE, b"a\nb\nc\nd\n"],
+        Status::Done,
+        b"plan,1\nnode,0,a\nnode,1,b\nnode,2,c\nnode,3,d\nlink,0,0,1\nlink,1,0,2\nlink,2,0,3\nlink,3,1,2\nlink,4,1,3\n\
             link,5,2,3\nmonitor,0\nmonitor,1\nmonitor,2\nmonitor,3\npath,0,0 1\npath,1,0 2\npath,2,0 3\npath,3,1 2\npath,4,1 3\n\
             path,5,2 3\nrecipe,0,2:0\nrecipe,1,2:1\nrecipe,2,2:2\nrecipe,3,2:3\nrecipe,4,2:4\nrecipe,5,2:5\nend\n",
-    },
+    ),
 ];
 
 #[test]
 fn paths_are_planned_for_given_monitors(rt: HostRuntime) -> Result<(), Fail> {
-    assert!(rt; all_hold(rt.alloc(), &GIVEN)?);
+    for ([topology, monitors], status, output) in GIVEN {
+        let files = [("t", topology), ("m", monitors)];
+        let (ended, sink) = run(rt.alloc(), &["paths", "t", "m"], &files)?;
+        assert!(rt; ended == status);
+        assert!(rt; sink.bytes() == output);
+    }
     Ok(())
 }
 

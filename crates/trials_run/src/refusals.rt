@@ -1,68 +1,37 @@
 // Words without a shape, files that are refused, and devices that fail.
-use crate::stage::{Case, all_hold, run, shelf_of, words_of};
+use crate::stage::{lines_of, run, shelf_of, words_of};
 use crate::texts::{TWO_LINKS, TWO_LINKS_PLAN};
 use outside::MemSink;
 use std::alloc::Global;
 use std::test::Fail;
 use tomo_run::{Status, tomo};
 
-const REFUSED: [Case; 8] = [
-    Case {
-        words: &["plan", "t"],
-        files: &[("t", b"")],
-        status: Status::BadInput,
-        output: b"refused,t,few,0\n",
-    },
-    Case {
-        words: &["plan", "t"],
-        files: &[("t", b"a,b\n")],
-        status: Status::BadInput,
-        output: b"refused,t,few,2\n",
-    },
-    Case {
-        words: &["plan", "t"],
-        files: &[("t", b"a\n")],
-        status: Status::BadInput,
-        output: b"refused,t,width,1\n",
-    },
-    Case {
-        words: &["plan", "t"],
-        files: &[("t", b"a,b\n ,c\n")],
-        status: Status::BadInput,
-        output: b"refused,t,name,2\n",
-    },
-    Case {
-        words: &["plan", "t"],
-        files: &[("t", b"a,b\nc,d\nd,d\n")],
-        status: Status::BadInput,
-        output: b"refused,t,loop,3\n",
-    },
-    Case {
-        words: &["plan", "t"],
-        files: &[("t", b"a,b\nc,d\n")],
-        status: Status::BadInput,
-        output: b"refused,t,apart,c\n",
-    },
-    Case {
-        words: &["plan", "t"],
-        files: &[("t", b"a,b\nb,b\nc\n")],
-        status: Status::BadInput,
-        output: b"refused,t,loop,2\n",
-    },
-    Case {
-        words: &["plan", "t"],
-        files: &[(
-            "t",
-            b"01234567890123456789012345678901234567890123456789012345678901234,b\nb,c\n",
-        )],
-        status: Status::BadInput,
-        output: b"refused,t,name,1\n",
-    },
+// Topologies that are refused, and the row that says why.
+const REFUSED: [(&[u8], &[u8]); 8] = [
+    (b"", b"refused,t,few,0\n"),
+    (b"a,b\n", b"refused,t,few,2\n"),
+    (b"a\n", b"refused,t,width,1\n"),
+    (b"a,b\n ,c\n", b"refused,t,name,2\n"),
+    (b"a,b\nc,d\nd,d\n", b"refused,t,loop,3\n"),
+    (b"a,b\nc,d\n", b"refused,t,apart,c\n"),
+    (b"a,b\nb,b\nc\n", b"refused,t,loop,2\n"),
+    (
+        b"01234567890123456789012345678901234567890123456789012345678901234,b\nb,c\n",
+        b"refused,t,name,1\n",
+    ),
 ];
+
+// Whether a topology is refused with this row.
+fn is_refused(alloc: Global, topology: &[u8], row: &[u8]) -> Result<bool, Fail> {
+    let (status, sink) = run(alloc, &["plan", "t"], &[("t", topology)])?;
+    Ok(status == Status::BadInput && sink.bytes() == row)
+}
 
 #[test]
 fn other_topologies_are_refused(rt: HostRuntime) -> Result<(), Fail> {
-    assert!(rt; all_hold(rt.alloc(), &REFUSED)?);
+    for (topology, row) in REFUSED {
+        assert!(rt; is_refused(rt.alloc(), topology, row)?);
+    }
     Ok(())
 }
 
@@ -88,19 +57,13 @@ fn pairs(alloc: Global, count: u32) -> Result<String, Fail> {
     Ok(text)
 }
 
-// Whether a topology is refused with this row.
-fn is_refused(alloc: Global, topology: &[u8], row: &[u8]) -> Result<bool, Fail> {
-    let (status, sink) = run(alloc, &["plan", "t"], &[("t", topology)])?;
-    Ok(status == Status::BadInput && sink.bytes() == row)
-}
-
 #[test]
 fn a_thousand_nodes_are_planned(rt: HostRuntime) -> Result<(), Fail> {
     let text = chain(rt.alloc(), 999)?;
     let (status, sink) = run(rt.alloc(), &["plan", "t"], &[("t", text.as_bytes())])?;
     assert!(rt; status == Status::Done);
-    assert!(rt; crate::stage::lines_of(sink.bytes(), b"monitor,") == 1000);
-    assert!(rt; crate::stage::lines_of(sink.bytes(), b"path,") == 999);
+    assert!(rt; lines_of(sink.bytes(), b"monitor,") == 1000);
+    assert!(rt; lines_of(sink.bytes(), b"path,") == 999);
     Ok(())
 }
 

@@ -1,133 +1,125 @@
 // Rounds are solved, and drills are made.
-use crate::stage::{Case, all_hold, lines_of, run, run_over_plan};
+use crate::stage::{lines_of, run, run_over_plan};
 use crate::texts::{
     COMPLETE, COMPLETE_PLAN, STAR, STAR_PLAN, TRIANGLES, TRIANGLES_PLAN, TWO_LINKS, TWO_LINKS_PLAN,
 };
+use std::alloc::Global;
 use std::test::Fail;
 use tomo_run::Status;
 
-const STAR_ROUNDS: [Case; 8] = [
-    Case {
-        words: &["solve", "t", "p", "r"],
-        files: &[("t", STAR), ("p", STAR_PLAN), ("r", b"5,6,7\n")],
-        status: Status::Done,
-        output: b"link,0,c,x\nlink,1,c,y\nlink,2,c,z\nround,0,ok,2,3,4\nend,1,0\n",
-    },
-    Case {
-        words: &["solve", "t", "p", "r"],
-        files: &[("t", STAR), ("p", STAR_PLAN), ("r", b"5,6,8\n")],
-        status: Status::Negative,
-        output: b"link,0,c,x\nlink,1,c,y\nlink,2,c,z\nround,0,odd,0\nend,1,1\n",
-    },
-    Case {
-        words: &["solve", "t", "p", "r"],
-        files: &[("t", STAR), ("p", STAR_PLAN), ("r", b"2,2,10\n")],
-        status: Status::Negative,
-        output: b"link,0,c,x\nlink,1,c,y\nlink,2,c,z\nround,0,negative,0\nend,1,1\n",
-    },
-    Case {
-        words: &["solve", "t", "p", "r"],
-        files: &[
-            ("t", STAR),
-            ("p", STAR_PLAN),
-            (
-                "r",
-                b"2000000000000,2000000000000,2000000000000\n1000000000000000,1000000000000000,1000000000000000\n",
-            ),
-        ],
-        status: Status::Negative,
-        output: b"link,0,c,x\nlink,1,c,y\nlink,2,c,z\nround,0,ok,1000000000000,1000000000000,1000000000000\nround,1,large,0\nend,2,1\n",
-    },
-    Case {
-        words: &["solve", "t", "p", "r"],
-        files: &[("t", STAR), ("p", STAR_PLAN), ("r", b"")],
-        status: Status::Done,
-        output: b"link,0,c,x\nlink,1,c,y\nlink,2,c,z\nend,0,0\n",
-    },
-    Case {
-        words: &["solve", "t", "p", "r"],
-        files: &[("t", STAR), ("p", STAR_PLAN), ("r", b"5,6\n")],
-        status: Status::BadInput,
-        output: b"refused,r,width,1\n",
-    },
-    Case {
-        words: &["solve", "t", "p", "r"],
-        files: &[("t", STAR), ("p", STAR_PLAN), ("r", b"5,x,7\n")],
-        status: Status::BadInput,
-        output: b"refused,r,number,1 2\n",
-    },
-    Case {
-        words: &["solve", "t", "p", "r"],
-        files: &[
-            ("t", STAR),
-            ("p", STAR_PLAN),
-            ("r", b"5,1000000000000001,7\n"),
-        ],
-        status: Status::BadInput,
-        output: b"refused,r,number,1 2\n",
-    },
+// Whether `solve` over a topology, a plan and rounds ends and writes so.
+fn is_solved(
+    alloc: Global,
+    files: [&[u8]; 3],
+    status: Status,
+    output: &[u8],
+) -> Result<bool, Fail> {
+    let [topology, plan, rounds] = files;
+    let files = [("t", topology), ("p", plan), ("r", rounds)];
+    let (ended, sink) = run(alloc, &["solve", "t", "p", "r"], &files)?;
+    Ok(ended == status && sink.bytes() == output)
+}
+
+// Rounds over the plan of a star, and what `solve` says of them.
+const STAR_ROUNDS: [(&[u8], Status, &[u8]); 13] = [
+    (
+        b"5,6,7\n",
+        Status::Done,
+        b"link,0,c,x\nlink,1,c,y\nlink,2,c,z\nround,0,ok,2,3,4\nend,1,0\n",
+    ),
+    (
+        b"005, 6 ,7\n",
+        Status::Done,
+        b"link,0,c,x\nlink,1,c,y\nlink,2,c,z\nround,0,ok,2,3,4\nend,1,0\n",
+    ),
+    (
+        b"5,6,8\n",
+        Status::Negative,
+        b"link,0,c,x\nlink,1,c,y\nlink,2,c,z\nround,0,odd,0\nend,1,1\n",
+    ),
+    (
+        b"2,2,10\n",
+        Status::Negative,
+        b"link,0,c,x\nlink,1,c,y\nlink,2,c,z\nround,0,negative,0\nend,1,1\n",
+    ),
+    (
+        b"2000000000000,2000000000000,2000000000000\n1000000000000000,1000000000000000,1000000000000000\n",
+        Status::Negative,
+        b"link,0,c,x\nlink,1,c,y\nlink,2,c,z\nround,0,ok,1000000000000,1000000000000,1000000000000\nround,1,large,0\nend,2,1\n",
+    ),
+    (
+        b"",
+        Status::Done,
+        b"link,0,c,x\nlink,1,c,y\nlink,2,c,z\nend,0,0\n",
+    ),
+    (b"5,6\n", Status::BadInput, b"refused,r,width,1\n"),
+    (b"5,6,7\n5,6\n", Status::BadInput, b"refused,r,width,2\n"),
+    (b"5,x,7\n", Status::BadInput, b"refused,r,number,1 2\n"),
+    (b"5,-1,7\n", Status::BadInput, b"refused,r,number,1 2\n"),
+    (
+        b"5,1000000000000001,7\n",
+        Status::BadInput,
+        b"refused,r,number,1 2\n",
+    ),
+    (
+        b"5,99999999999999999999,7\n",
+        Status::BadInput,
+        b"refused,r,number,1 2\n",
+    ),
+    (
+        b"5,6,000000000000000000007\n",
+        Status::BadInput,
+        b"refused,r,number,1 3\n",
+    ),
 ];
 
 #[test]
 fn rounds_over_a_star_are_solved(rt: HostRuntime) -> Result<(), Fail> {
-    assert!(rt; all_hold(rt.alloc(), &STAR_ROUNDS)?);
+    for (rounds, status, output) in STAR_ROUNDS {
+        assert!(rt; is_solved(rt.alloc(), [STAR, STAR_PLAN, rounds], status, output)?);
+    }
     Ok(())
 }
 
-const OTHER_ROUNDS: [Case; 5] = [
-    Case {
-        words: &["solve", "t", "p", "r"],
-        files: &[
-            ("t", TWO_LINKS),
-            ("p", TWO_LINKS_PLAN),
-            ("r", b"5, 7 \n0,1000000000000\n1000000000001,0\n"),
+// A topology, a plan and rounds, and what `solve` says.
+const OTHER_ROUNDS: [([&[u8]; 3], Status, &[u8]); 5] = [
+    (
+        [
+            TWO_LINKS,
+            TWO_LINKS_PLAN,
+            b"5, 7 \n0,1000000000000\n1000000000001,0\n",
         ],
-        status: Status::Negative,
-        output: b"link,0,a,b\nlink,1,b,c\nround,0,ok,5,7\nround,1,ok,0,1000000000000\nround,2,large,0\nend,3,1\n",
-    },
-    Case {
-        words: &["solve", "t", "p", "r"],
-        files: &[
-            ("t", COMPLETE),
-            ("p", COMPLETE_PLAN),
-            ("r", b"1,2,8,9,4,11\n"),
-        ],
-        status: Status::Done,
-        output: b"link,0,a,b\nlink,1,a,c\nlink,2,a,d\nlink,3,b,c\nlink,4,b,d\nlink,5,c,d\nround,0,ok,1,2,3,4,5,6\nend,1,0\n",
-    },
-    Case {
-        words: &["solve", "t", "p", "r"],
-        files: &[
-            ("t", TRIANGLES),
-            ("p", TRIANGLES_PLAN),
-            ("r", b"1,2,3,3,3,3,2,1\n"),
-        ],
-        status: Status::Done,
-        output: b"link,0,a,b\nlink,1,a,c\nlink,2,b,c\nlink,3,c,d\nlink,4,d,e\nlink,5,d,f\nlink,6,e,f\nround,0,ok,1,1,1,1,1,1,1\nend,1,0\n",
-    },
+        Status::Negative,
+        b"link,0,a,b\nlink,1,b,c\nround,0,ok,5,7\nround,1,ok,0,1000000000000\nround,2,large,0\nend,3,1\n",
+    ),
+    (
+        [COMPLETE, COMPLETE_PLAN, b"1,2,8,9,4,11\n"],
+        Status::Done,
+        b"link,0,a,b\nlink,1,a,c\nlink,2,a,d\nlink,3,b,c\nlink,4,b,d\nlink,5,c,d\nround,0,ok,1,2,3,4,5,6\nend,1,0\n",
+    ),
+    (
+        [TRIANGLES, TRIANGLES_PLAN, b"1,2,3,3,3,3,2,1\n"],
+        Status::Done,
+        b"link,0,a,b\nlink,1,a,c\nlink,2,b,c\nlink,3,c,d\nlink,4,d,e\nlink,5,d,f\nlink,6,e,f\nround,0,ok,1,1,1,1,1,1,1\nend,1,0\n",
+    ),
     // The eight paths of a plan that is not tied can disagree.
-    Case {
-        words: &["solve", "t", "p", "r"],
-        files: &[
-            ("t", TRIANGLES),
-            ("p", TRIANGLES_PLAN),
-            ("r", b"1,2,3,3,3,5,2,1\n"),
-        ],
-        status: Status::Negative,
-        output: b"link,0,a,b\nlink,1,a,c\nlink,2,b,c\nlink,3,c,d\nlink,4,d,e\nlink,5,d,f\nlink,6,e,f\nround,0,path,2\nend,1,1\n",
-    },
-    // A plan with a fault is the last file that is read.
-    Case {
-        words: &["solve", "t", "p", "r"],
-        files: &[("t", b"a,b\nb,d\n"), ("p", TWO_LINKS_PLAN)],
-        status: Status::BadInput,
-        output: b"refused,p,check-names,2\n",
-    },
+    (
+        [TRIANGLES, TRIANGLES_PLAN, b"1,2,3,3,3,5,2,1\n"],
+        Status::Negative,
+        b"link,0,a,b\nlink,1,a,c\nlink,2,b,c\nlink,3,c,d\nlink,4,d,e\nlink,5,d,f\nlink,6,e,f\nround,0,path,2\nend,1,1\n",
+    ),
+    (
+        [b"a,b\nb,d\n", TWO_LINKS_PLAN, b"5,7\n"],
+        Status::BadInput,
+        b"refused,p,check-names,2\n",
+    ),
 ];
 
 #[test]
 fn rounds_over_other_plans_are_solved(rt: HostRuntime) -> Result<(), Fail> {
-    assert!(rt; all_hold(rt.alloc(), &OTHER_ROUNDS)?);
+    for (files, status, output) in OTHER_ROUNDS {
+        assert!(rt; is_solved(rt.alloc(), files, status, output)?);
+    }
     Ok(())
 }
 
@@ -172,16 +164,12 @@ fn no_round_over_a_printed_plan_names_a_path(rt: HostRuntime) -> Result<(), Fail
     Ok(())
 }
 
-const DRILLS: [Case; 1] = [Case {
-    words: &["drill", "1", "3", "3"],
-    files: &[],
-    status: Status::Done,
-    output: b"drill,1,3,3\nmonitors,3\nbound,3\npaths,3,1330000\ntotal,1330000\n",
-}];
-
 #[test]
 fn a_ring_is_drilled(rt: HostRuntime) -> Result<(), Fail> {
-    assert!(rt; all_hold(rt.alloc(), &DRILLS)?);
+    let (status, sink) = run(rt.alloc(), &["drill", "1", "3", "3"], &[])?;
+    assert!(rt; status == Status::Done);
+    let rows = b"drill,1,3,3\nmonitors,3\nbound,3\npaths,3,1330000\ntotal,1330000\n".as_slice();
+    assert!(rt; sink.bytes() == rows);
     Ok(())
 }
 

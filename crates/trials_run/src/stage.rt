@@ -8,15 +8,6 @@ use tomo_run::{Status, tomo};
 // Names, and the contents of the files of these names.
 pub type Files<'a> = &'a [(&'a str, &'a [u8])];
 
-// What is run over which files, and how it must end and what it must write.
-#[derive(Clone, Copy)]
-pub struct Case {
-    pub words: &'static [&'static str],
-    pub files: &'static [(&'static str, &'static [u8])],
-    pub status: Status,
-    pub output: &'static [u8],
-}
-
 // At most ten words.
 pub fn words_of(alloc: Global, words: &[&str]) -> Result<Words, Fail> {
     let mut all = Words::new(alloc);
@@ -44,22 +35,6 @@ pub fn run(alloc: Global, words: &[&str], files: Files<'_>) -> Result<(Status, M
     let mut sink = MemSink::new(alloc, 1 << 24, 1000)?;
     let status = tomo(alloc, &words, &mut shelf, &mut sink);
     Ok((status, sink))
-}
-
-// Whether a run ends and writes as the case says.
-pub fn holds(alloc: Global, case: &Case) -> Result<bool, Fail> {
-    let (status, sink) = run(alloc, case.words, case.files)?;
-    Ok(status == case.status && sink.bytes() == case.output)
-}
-
-// Whether all the cases hold.
-pub fn all_hold(alloc: Global, cases: &[Case]) -> Result<bool, Fail> {
-    for case in cases {
-        if !holds(alloc, case)? {
-            return Ok(false);
-        }
-    }
-    Ok(true)
 }
 
 // Whether `plan` prints a plan for the topology that begins with these rows.

@@ -1,5 +1,5 @@
 // Monitors are judged, single links are told, plans are checked, parts and trees are told.
-use crate::stage::{Case, all_hold, lines_of, run};
+use crate::stage::{lines_of, run};
 use crate::texts::{
     CHORD, HEXAGON, PRISM, SHARING_A_PAIR, STAR, TRIANGLES, TRIANGLES_PLAN, TWO_LINKS,
     TWO_LINKS_PLAN,
@@ -7,108 +7,78 @@ use crate::texts::{
 use std::test::Fail;
 use tomo_run::Status;
 
-const JUDGED: [Case; 8] = [
-    Case {
-        words: &["judge", "t", "m"],
-        files: &[("t", STAR), ("m", b"x\ny\n z \nx\n")],
-        status: Status::Done,
-        output: b"yes,3\n",
-    },
-    Case {
-        words: &["judge", "t", "m"],
-        files: &[("t", STAR), ("m", b"y\nx\n")],
-        status: Status::Negative,
-        output: b"bad,c,z\n",
-    },
-    Case {
-        words: &["judge", "t", "m"],
-        files: &[("t", STAR), ("m", b"")],
-        status: Status::Negative,
-        output: b"bad,c,x,y,z\n",
-    },
-    Case {
-        words: &["judge", "t", "m"],
-        files: &[("t", STAR), ("m", b"c\nz,x\ny\n")],
-        status: Status::Negative,
-        output: b"bad,x\n",
-    },
-    Case {
-        words: &["judge", "t", "m"],
-        files: &[("t", STAR), ("m", b"q\n")],
-        status: Status::BadInput,
-        output: b"refused,m,unknown,1\n",
-    },
-    Case {
-        words: &["judge", "t", "m"],
-        files: &[("t", SHARING_A_PAIR), ("m", b"a\nb\nc\n")],
-        status: Status::Negative,
-        output: b"bad,f,g,h\n",
-    },
-    Case {
-        words: &["judge", "t", "m"],
-        files: &[("t", SHARING_A_PAIR), ("m", b"a\nc\nf\n")],
-        status: Status::Done,
-        output: b"yes,3\n",
-    },
-    // A topology that is refused is the last file that is read.
-    Case {
-        words: &["judge", "--header", "t", "m"],
-        files: &[("t", b"a,b\nc,d\n")],
-        status: Status::BadInput,
-        output: b"refused,t,few,2\n",
-    },
+// A topology and monitors, and what `judge` says.
+const JUDGED: [([&[u8]; 2], Status, &[u8]); 8] = [
+    ([STAR, b"x\ny\n z \nx\n"], Status::Done, b"yes,3\n"),
+    ([STAR, b"y\nx\n"], Status::Negative, b"bad,c,z\n"),
+    ([STAR, b""], Status::Negative, b"bad,c,x,y,z\n"),
+    ([STAR, b"c\nz,x\ny\n"], Status::Negative, b"bad,x\n"),
+    ([STAR, b"q\n"], Status::BadInput, b"refused,m,unknown,1\n"),
+    (
+        [SHARING_A_PAIR, b"a\nb\nc\n"],
+        Status::Negative,
+        b"bad,f,g,h\n",
+    ),
+    ([SHARING_A_PAIR, b"a\nc\nf\n"], Status::Done, b"yes,3\n"),
+    // A topology that is refused is told, and not the monitors.
+    ([b"a,b\n", b"q\n"], Status::BadInput, b"refused,t,few,2\n"),
 ];
 
 #[test]
 fn monitors_are_judged(rt: HostRuntime) -> Result<(), Fail> {
-    assert!(rt; all_hold(rt.alloc(), &JUDGED)?);
+    for ([topology, monitors], status, output) in JUDGED {
+        let files = [("t", topology), ("m", monitors)];
+        let (ended, sink) = run(rt.alloc(), &["judge", "t", "m"], &files)?;
+        assert!(rt; ended == status);
+        assert!(rt; sink.bytes() == output);
+    }
     Ok(())
 }
 
-const STAR_AND_LEAVES: &[(&str, &[u8])] = &[("t", STAR), ("m", b"x\ny\nz\n")];
-
-const LINKS: [Case; 6] = [
-    Case {
-        words: &["link", "t", "m", "c", "x"],
-        files: STAR_AND_LEAVES,
-        status: Status::Done,
-        output: b"term,1,x,c,y\nterm,1,x,c,z\nterm,-1,y,c,z\n",
-    },
-    Case {
-        words: &["link", "t", "m", "x", "c"],
-        files: STAR_AND_LEAVES,
-        status: Status::Done,
-        output: b"term,1,x,c,y\nterm,1,x,c,z\nterm,-1,y,c,z\n",
-    },
-    Case {
-        words: &["link", "t", "m", "q", "x"],
-        files: STAR_AND_LEAVES,
-        status: Status::BadInput,
-        output: b"refused,q,node,a\n",
-    },
-    Case {
-        words: &["link", "t", "m", "x", "q"],
-        files: STAR_AND_LEAVES,
-        status: Status::BadInput,
-        output: b"refused,q,node,b\n",
-    },
-    Case {
-        words: &["link", "t", "m", "x", "y"],
-        files: STAR_AND_LEAVES,
-        status: Status::BadInput,
-        output: b"refused,x,unlinked,y\n",
-    },
-    Case {
-        words: &["link", "t", "m", "c", "x"],
-        files: &[("t", STAR), ("m", b"x\ny\n")],
-        status: Status::Negative,
-        output: b"bad,c,z\n",
-    },
+// Monitors of a star and the two words of `link`, and what it says.
+const LINKS: [(&[u8], [&str; 2], Status, &[u8]); 6] = [
+    (
+        b"x\ny\nz\n",
+        ["c", "x"],
+        Status::Done,
+        b"term,1,x,c,y\nterm,1,x,c,z\nterm,-1,y,c,z\n",
+    ),
+    (
+        b"x\ny\nz\n",
+        ["x", "c"],
+        Status::Done,
+        b"term,1,x,c,y\nterm,1,x,c,z\nterm,-1,y,c,z\n",
+    ),
+    (
+        b"x\ny\nz\n",
+        ["q", "x"],
+        Status::BadInput,
+        b"refused,q,node,a\n",
+    ),
+    (
+        b"x\ny\nz\n",
+        ["x", "q"],
+        Status::BadInput,
+        b"refused,q,node,b\n",
+    ),
+    (
+        b"x\ny\nz\n",
+        ["x", "y"],
+        Status::BadInput,
+        b"refused,x,unlinked,y\n",
+    ),
+    (b"x\ny\n", ["c", "x"], Status::Negative, b"bad,c,z\n"),
 ];
 
 #[test]
 fn links_are_told(rt: HostRuntime) -> Result<(), Fail> {
-    assert!(rt; all_hold(rt.alloc(), &LINKS)?);
+    for (monitors, [first, second], status, output) in LINKS {
+        let files = [("t", STAR), ("m", monitors)];
+        let words = ["link", "t", "m", first, second];
+        let (ended, sink) = run(rt.alloc(), &words, &files)?;
+        assert!(rt; ended == status);
+        assert!(rt; sink.bytes() == output);
+    }
     Ok(())
 }
 
@@ -122,111 +92,105 @@ fn a_link_between_triangles_takes_four_paths(rt: HostRuntime) -> Result<(), Fail
     Ok(())
 }
 
-const CHECKED: [Case; 5] = [
-    Case {
-        words: &["check", "t", "p"],
-        files: &[("t", TWO_LINKS), ("p", TWO_LINKS_PLAN)],
-        status: Status::Done,
-        output: b"good,3,3\n",
-    },
-    Case {
-        words: &["check", "t", "p"],
-        files: &[("t", TRIANGLES), ("p", TRIANGLES_PLAN)],
-        status: Status::Done,
-        output: b"good,4,4\n",
-    },
-    Case {
-        words: &["check", "t", "p"],
-        files: &[("t", b"a,b\nb,d\n"), ("p", TWO_LINKS_PLAN)],
-        status: Status::Negative,
-        output: b"bad,names,2\n",
-    },
-    Case {
-        words: &["check", "t", "p"],
-        files: &[("t", TWO_LINKS), ("p", b"plan,1\nnode,0,a\n")],
-        status: Status::BadInput,
-        output: b"refused,p,missing,2\n",
-    },
-    Case {
-        words: &["check", "t", "p"],
-        files: &[("t", b"a,a\n"), ("p", TWO_LINKS_PLAN)],
-        status: Status::BadInput,
-        output: b"refused,t,loop,1\n",
-    },
+// A topology and a plan, and what `check` says.
+const CHECKED: [([&[u8]; 2], Status, &[u8]); 5] = [
+    ([TWO_LINKS, TWO_LINKS_PLAN], Status::Done, b"good,3,3\n"),
+    ([TRIANGLES, TRIANGLES_PLAN], Status::Done, b"good,4,4\n"),
+    (
+        [b"a,b\nb,d\n", TWO_LINKS_PLAN],
+        Status::Negative,
+        b"bad,names,2\n",
+    ),
+    (
+        [TWO_LINKS, b"plan,1\nnode,0,a\n"],
+        Status::BadInput,
+        b"refused,p,missing,2\n",
+    ),
+    (
+        [b"a,a\n", TWO_LINKS_PLAN],
+        Status::BadInput,
+        b"refused,t,loop,1\n",
+    ),
 ];
 
 #[test]
 fn plans_are_checked(rt: HostRuntime) -> Result<(), Fail> {
-    assert!(rt; all_hold(rt.alloc(), &CHECKED)?);
+    for ([topology, plan], status, output) in CHECKED {
+        let files = [("t", topology), ("p", plan)];
+        let (ended, sink) = run(rt.alloc(), &["check", "t", "p"], &files)?;
+        assert!(rt; ended == status);
+        assert!(rt; sink.bytes() == output);
+    }
     Ok(())
 }
 
-const PARTS: [Case; 5] = [
-    Case {
-        words: &["components", "t"],
-        files: &[("t", SHARING_A_PAIR)],
-        status: Status::Done,
-        output: b"node,0,a\nnode,1,b\nnode,2,c\nnode,3,d\nnode,4,e\nnode,5,f\nnode,6,g\nnode,7,h\nblock,0,0 1 2 3 4 5 6 7\n\
+// Topologies, and what `components` says of each.
+const PARTS: [(&[u8], &[u8]); 5] = [
+    (
+        SHARING_A_PAIR,
+        b"node,0,a\nnode,1,b\nnode,2,c\nnode,3,d\nnode,4,e\nnode,5,f\nnode,6,g\nnode,7,h\nblock,0,0 1 2 3 4 5 6 7\n\
             three,0,0,0 1 2 3 4\nthree,1,0,0 1 5 6 7\nend\n",
-    },
-    Case {
-        words: &["components", "t"],
-        files: &[("t", TRIANGLES)],
-        status: Status::Done,
-        output: b"node,0,a\nnode,1,b\nnode,2,c\nnode,3,d\nnode,4,e\nnode,5,f\ncut,2\ncut,3\nblock,0,0 1 2\nblock,1,2 3\n\
+    ),
+    (
+        TRIANGLES,
+        b"node,0,a\nnode,1,b\nnode,2,c\nnode,3,d\nnode,4,e\nnode,5,f\ncut,2\ncut,3\nblock,0,0 1 2\nblock,1,2 3\n\
             block,2,3 4 5\nend\n",
-    },
-    Case {
-        words: &["components", "t"],
-        files: &[("t", PRISM)],
-        status: Status::Done,
-        output: b"node,0,a\nnode,1,b\nnode,2,c\nnode,3,d\nnode,4,e\nnode,5,f\nblock,0,0 1 2 3 4 5\nthree,0,0,0 1 2 3 4 5\nend\n",
-    },
-    Case {
-        words: &["components", "--header", "t"],
-        files: &[("t", b"from,to\na,b\nb,c\nc,d\nd,a\na,c\n")],
-        status: Status::Done,
-        output: b"node,0,a\nnode,1,b\nnode,2,c\nnode,3,d\nblock,0,0 1 2 3\nend\n",
-    },
-    Case {
-        words: &["components", "t"],
-        files: &[("t", HEXAGON)],
-        status: Status::Done,
-        output: b"node,0,a\nnode,1,b\nnode,2,c\nnode,3,d\nnode,4,e\nnode,5,f\nblock,0,0 1 2 3 4 5\nend\n",
-    },
+    ),
+    (
+        PRISM,
+        b"node,0,a\nnode,1,b\nnode,2,c\nnode,3,d\nnode,4,e\nnode,5,f\nblock,0,0 1 2 3 4 5\nthree,0,0,0 1 2 3 4 5\nend\n",
+    ),
+    (
+        CHORD,
+        b"node,0,a\nnode,1,b\nnode,2,c\nnode,3,d\nblock,0,0 1 2 3\nend\n",
+    ),
+    (
+        HEXAGON,
+        b"node,0,a\nnode,1,b\nnode,2,c\nnode,3,d\nnode,4,e\nnode,5,f\nblock,0,0 1 2 3 4 5\nend\n",
+    ),
 ];
 
 #[test]
 fn parts_are_told(rt: HostRuntime) -> Result<(), Fail> {
-    assert!(rt; all_hold(rt.alloc(), &PARTS)?);
+    for (topology, rows) in PARTS {
+        let (status, sink) = run(rt.alloc(), &["components", "t"], &[("t", topology)])?;
+        assert!(rt; status == Status::Done);
+        assert!(rt; sink.bytes() == rows);
+    }
     Ok(())
 }
 
-// Topologies without and with a file of monitors too many, and one that is refused.
-const MISUSED: [Case; 3] = [
-    Case {
-        words: &["components", "t", "m"],
-        files: &[("t", CHORD), ("m", b"a\n")],
-        status: Status::Usage,
-        output: b"",
-    },
-    Case {
-        words: &["trees", "t", "--header"],
-        files: &[("t", CHORD)],
-        status: Status::Usage,
-        output: b"",
-    },
-    Case {
-        words: &["trees", "t"],
-        files: &[("t", b"a,b\nc,d\n")],
-        status: Status::BadInput,
-        output: b"refused,t,apart,c\n",
-    },
+// Words for `components` and `trees`, the topology, and how the run ends.
+const OTHERWISE: [(&[&str], &[u8], Status, &[u8]); 5] = [
+    (
+        &["components", "--header", "t"],
+        b"from,to\na,b\nb,c\n",
+        Status::Done,
+        b"node,0,a\nnode,1,b\nnode,2,c\ncut,1\nblock,0,0 1\nblock,1,1 2\nend\n",
+    ),
+    (&["components", "t", "t"], CHORD, Status::Usage, b""),
+    (&["trees", "t", "--header"], CHORD, Status::Usage, b""),
+    (
+        &["components", "t"],
+        b"a,b\n",
+        Status::BadInput,
+        b"refused,t,few,2\n",
+    ),
+    (
+        &["trees", "t"],
+        b"a,b\nc,d\n",
+        Status::BadInput,
+        b"refused,t,apart,c\n",
+    ),
 ];
 
 #[test]
-fn parts_and_trees_are_refused(rt: HostRuntime) -> Result<(), Fail> {
-    assert!(rt; all_hold(rt.alloc(), &MISUSED)?);
+fn parts_and_trees_end_otherwise(rt: HostRuntime) -> Result<(), Fail> {
+    for (words, topology, status, output) in OTHERWISE {
+        let (ended, sink) = run(rt.alloc(), words, &[("t", topology)])?;
+        assert!(rt; ended == status);
+        assert!(rt; sink.bytes() == output);
+    }
     Ok(())
 }
 

@@ -20,53 +20,82 @@ fn is_solved(
     Ok(ended == status && sink.bytes() == output)
 }
 
-// Rounds over the plan of a star, and what `solve` says of them.
-const STAR_ROUNDS: [(&[u8], Status, &[u8]); 13] = [
+// What a round over the plan of a star is, its sums, and what `solve` says of it.
+const STAR_ROUNDS: [(&str, &[u8], Status, &[u8]); 13] = [
     (
+        "one round",
         b"5,6,7\n",
         Status::Done,
         b"link,0,c,x\nlink,1,c,y\nlink,2,c,z\nround,0,ok,2,3,4\nend,1,0\n",
     ),
     (
+        "blanks and zeros in front",
         b"005, 6 ,7\n",
         Status::Done,
         b"link,0,c,x\nlink,1,c,y\nlink,2,c,z\nround,0,ok,2,3,4\nend,1,0\n",
     ),
     (
+        "an odd value",
         b"5,6,8\n",
         Status::Negative,
         b"link,0,c,x\nlink,1,c,y\nlink,2,c,z\nround,0,odd,0\nend,1,1\n",
     ),
     (
+        "a negative value",
         b"2,2,10\n",
         Status::Negative,
         b"link,0,c,x\nlink,1,c,y\nlink,2,c,z\nround,0,negative,0\nend,1,1\n",
     ),
     (
+        "the largest delay, and more",
         b"2000000000000,2000000000000,2000000000000\n1000000000000000,1000000000000000,1000000000000000\n",
         Status::Negative,
         b"link,0,c,x\nlink,1,c,y\nlink,2,c,z\nround,0,ok,1000000000000,1000000000000,1000000000000\nround,1,large,0\nend,2,1\n",
     ),
     (
+        "no round",
         b"",
         Status::Done,
         b"link,0,c,x\nlink,1,c,y\nlink,2,c,z\nend,0,0\n",
     ),
-    (b"5,6\n", Status::BadInput, b"refused,r,width,1\n"),
-    (b"5,6,7\n5,6\n", Status::BadInput, b"refused,r,width,2\n"),
-    (b"5,x,7\n", Status::BadInput, b"refused,r,number,1 2\n"),
-    (b"5,-1,7\n", Status::BadInput, b"refused,r,number,1 2\n"),
     (
+        "two sums",
+        b"5,6\n",
+        Status::BadInput,
+        b"refused,r,width,1\n",
+    ),
+    (
+        "two sums in the second round",
+        b"5,6,7\n5,6\n",
+        Status::BadInput,
+        b"refused,r,width,2\n",
+    ),
+    (
+        "a letter",
+        b"5,x,7\n",
+        Status::BadInput,
+        b"refused,r,number,1 2\n",
+    ),
+    (
+        "a sign",
+        b"5,-1,7\n",
+        Status::BadInput,
+        b"refused,r,number,1 2\n",
+    ),
+    (
+        "a sum too large",
         b"5,1000000000000001,7\n",
         Status::BadInput,
         b"refused,r,number,1 2\n",
     ),
     (
+        "a sum of 20 digits",
         b"5,99999999999999999999,7\n",
         Status::BadInput,
         b"refused,r,number,1 2\n",
     ),
     (
+        "21 digits",
         b"5,6,000000000000000000007\n",
         Status::BadInput,
         b"refused,r,number,1 3\n",
@@ -75,8 +104,9 @@ const STAR_ROUNDS: [(&[u8], Status, &[u8]); 13] = [
 
 #[test]
 fn rounds_over_a_star_are_solved(rt: HostRuntime) -> Result<(), Fail> {
-    for (rounds, status, output) in STAR_ROUNDS {
-        assert!(rt; is_solved(rt.alloc(), [STAR, STAR_PLAN, rounds], status, output)?);
+    for (what, rounds, status, output) in STAR_ROUNDS {
+        let told = is_solved(rt.alloc(), [STAR, STAR_PLAN, rounds], status, output)?;
+        assert_eq!(rt; told, true, "{what}");
     }
     Ok(())
 }

@@ -1,4 +1,5 @@
 pub mod NodeNames
+pub mod CrossTerms
 pub mod TermRows
 pub mod Solved
 pub mod ThreeBlocks

@@ -8,16 +8,17 @@ use Rattle.tomo_base.specs.Sets.{has, members}
 use Rattle.tomo_base.specs.Blocks.{IsBlock, IsThreeBlockOf, IsThreeBlock}
 use Rattle.std.specs.Global.{Global}
 use Rattle.std.specs.List.Sorted.{IsStrictlySortedBy}
-use Rattle.tomo_base.specs.SetLists.{IsSetBelow, AreSetsWith, AreAllSets, set_cmp}
-use Rattle.blocks.specs.Lists.{lists_of}
+use Rattle.tomo_base.specs.Limits.{node_limit}
+use Rattle.tomo_base.specs.SetLists.{IsSetBelow, AreSetsWith, AreAllSets, set_cmp, lists_of}
 use Rattle.blocks.proofs.SameSets.{sets_same}
-use Rattle.tomo_base.proofs.Counts.{count-mono, count-le}
+use Rattle.tomo_base.proofs.Counts.{count-le}
 use Rattle.tomo_base.proofs.Members.{count-has, has-members}
 use Rattle.tomo_base.proofs.Ascending.{has-at}
 use Rattle.mmp_place.proofs.Parts.{three_block_same}
 use Rattle.split_tree.specs.declared.piece.Piece.{Piece}
 use Rattle.split_tree.specs.Pieces.{IsPieceOf}
 use Rattle.tomo_base.specs.Search.{entry_at}
+use Rattle.mmp_place.proofs.Gathering.{no_three_block}
 use Rattle.answers.specs.Components.{AreIn, AreHomes}
 
 -- the lists are the three-blocks of these blocks
@@ -41,8 +42,7 @@ gathers_past g blocks lists b is small old = record {
   each = old.each;
   every = λ c con t of. elim (Contains-push_cases blocks b c con) [
     | inl earlier ↦ old.every c earlier t of
-    | inr same ↦ absurd (let here : IsThreeBlockOf g (has b) t = subst (λ z. IsThreeBlockOf g (has z) t) (sym same) of in
-        omega (arith, small, here.four, count-mono g.nodes t (has b) here.inside, count-has g.nodes b is.ascending is.below))
+    | inr same ↦ absurd (no_three_block g b t is small (subst (λ z. IsThreeBlockOf g (has z) t) (sym same) of))
   ];
 }
 
@@ -126,7 +126,7 @@ homes_all blocks sets i homes all old =
     record { count = old.count ∙ all; block = λ k l. old.block k (omega (arith, l, all)); nodes = λ k l. old.nodes k (omega (arith, l, all)) }
 
 -- the sets of one block more are at most a thousand more
-pub added_few : (old new : List (Vec ℕ Global)) (sets : List (List ℕ)) (n i : ℕ) → lists_of new ≡ lists_of old ++ sets → length sets ≤ n → n ≤ 1000 → length old ≤ 1000 * i → length new ≤ 1000 * (i + 1)
+pub added_few : (old new : List (Vec ℕ Global)) (sets : List (List ℕ)) (n i : ℕ) → lists_of new ≡ lists_of old ++ sets → length sets ≤ n → n ≤ node_limit → length old ≤ node_limit * i → length new ≤ node_limit * (i + 1)
 added_few old new sets n i same few limit so_far =
     omega (arith, few, limit, so_far, ap (λ (xs : List (List ℕ)). length xs) same, length-append (lists_of old) sets, length-map old (λ (v : Vec ℕ Global). v.items), length-map new (λ (v : Vec ℕ Global). v.items))
 

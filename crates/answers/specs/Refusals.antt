@@ -9,6 +9,8 @@ use Rattle.round_reader.specs.declared.faults.RoundFault.{RoundFault}
 use Rattle.round_reader.specs.declared.faults.RoundFault.TheVariants as round_faults
 use Rattle.topology.specs.declared.faults.MonFault.{MonFault}
 use Rattle.topology.specs.declared.faults.MonFault.TheVariants as mon_faults
+use Rattle.topology.specs.declared.faults.ChoiceFault.{ChoiceFault}
+use Rattle.topology.specs.declared.faults.ChoiceFault.TheVariants as choice_faults
 use Rattle.topology.specs.declared.faults.TopoFault.{TopoFault}
 use Rattle.topology.specs.declared.faults.TopoFault.TheVariants.{NoMemory, Width, Name, Loop, Nodes, Links, Few, Apart}
 
@@ -51,6 +53,21 @@ abbrev pub monitor_place : MonFault → List ℕ
 monitor_place mon_faults.NoMemory = []
 monitor_place (mon_faults.Unknown r) = decimal r
 
+-- why a choice is refused, and where: the row
+abbrev pub choice_reason : ChoiceFault → List ℕ
+choice_reason choice_faults.NoMemory = []
+choice_reason (choice_faults.Width r) = codes "width"
+choice_reason (choice_faults.Word r) = codes "word"
+choice_reason (choice_faults.Unknown r) = codes "unknown"
+choice_reason (choice_faults.Clash r) = codes "clash"
+
+abbrev pub choice_place : ChoiceFault → List ℕ
+choice_place choice_faults.NoMemory = []
+choice_place (choice_faults.Width r) = decimal r
+choice_place (choice_faults.Word r) = decimal r
+choice_place (choice_faults.Unknown r) = decimal r
+choice_place (choice_faults.Clash r) = decimal r
+
 -- why rows are refused as a plan, and where: the row, or the number of rows
 abbrev pub plan_reason : PlanFault → List ℕ
 plan_reason plan_faults.NoMemory = []
@@ -72,6 +89,8 @@ plan_place (plan_faults.After r) = decimal r
 abbrev pub fault_part : Fault → List ℕ
 fault_part (plan_parts.Names i) = codes "names"
 fault_part (plan_parts.Links i) = codes "links"
+fault_part (plan_parts.Must i) = codes "must"
+fault_part (plan_parts.Not i) = codes "not"
 fault_part (plan_parts.Monitor i) = codes "monitor"
 fault_part (plan_parts.Pocket i) = codes "pocket"
 fault_part (plan_parts.Path i) = codes "path"
@@ -80,6 +99,8 @@ fault_part (plan_parts.Recipe i) = codes "recipe"
 abbrev pub fault_number : Fault → ℕ
 fault_number (plan_parts.Names i) = i
 fault_number (plan_parts.Links i) = i
+fault_number (plan_parts.Must i) = i
+fault_number (plan_parts.Not i) = i
 fault_number (plan_parts.Monitor i) = i
 fault_number (plan_parts.Pocket i) = i
 fault_number (plan_parts.Path i) = i

@@ -8,7 +8,7 @@ use Rattle.topology.specs.Topology.{Topo}
 use Rattle.plan_form.specs.Parts.{PlanParts}
 use Rattle.plan_form.specs.PlanRows.{numbered}
 use Rattle.plan_form.specs.Tied.{AreTied}
-use Rattle.link_solver.specs.Verdict.{IsVerdict, Means, NamesNoPath}
+use Rattle.link_solver.specs.Verdict.{Means, NamesNoPath, AnswersRound}
 use Rattle.link_solver.specs.declared.answer.Why.{Why}
 use Rattle.link_solver.specs.declared.answer.Why.TheVariants.{Odd, Negative, Large}
 use Rattle.link_solver.specs.declared.answer.Answer.{Answer}
@@ -24,7 +24,7 @@ pub record Outcome : Type 0 where
 
 -- what is said is the verdict over the plan; it means that the delays are the one assignment with these sums, or that none has them; over a tied plan, as those that are printed, it names no path
 pub record IsOutcome (g : Network) (p : PlanParts) (o : Outcome) : Type 0 where
-  pub verdict : IsVerdict g p.paths p.recipes o.sums o.delays o.answer
+  pub verdict : AnswersRound g p.paths p.recipes o.sums o.delays o.answer
   pub means : Means g p.paths o.sums o.delays o.answer
   pub tied : AreTied g.links p.paths p.recipes → NamesNoPath o.answer
 

@@ -11,7 +11,7 @@ use crate::inputs::{FileInputs, Inputs};
 use crate::judging::judge_monitors;
 use crate::linking::tell_link;
 use crate::placed::Placed;
-use crate::planning::{plan, plan_paths};
+use crate::planning::{plan, plan_chosen, plan_paths};
 use crate::reporting::check_plan;
 use crate::solving::solve_rounds;
 use crate::tasks::{MonitorTask, TopologyTask};
@@ -72,6 +72,7 @@ pub fn answer_to(
         Inputs::OnFiles(FileInputs::OnMonitors(task, placed)) => {
             answer_on_monitors(alloc, task, &placed, first, second)
         }
+        Inputs::OnFiles(FileInputs::OnChoice(chosen)) => plan_chosen(alloc, &chosen),
         Inputs::OnFiles(FileInputs::Check(planned)) => check_plan(alloc, &planned),
         Inputs::OnFiles(FileInputs::Solve(measured)) => solve_rounds(alloc, &measured),
         Inputs::Drill(numbers) => tell_drill(alloc, numbers),

@@ -7,6 +7,7 @@ ghost use Rattle.answers.specs.FileKinds.{limit};
 pub enum FileKind {
     TopologyFile,
     MonitorFile,
+    ChoiceFile,
     PlanFile,
     RoundFile,
 }
@@ -16,7 +17,7 @@ pub fn limit_of(kind: FileKind) -> u64
     ensures { result ≡ limit kind }
 {
     match kind {
-        FileKind::TopologyFile | FileKind::MonitorFile => 4_194_304,
+        FileKind::TopologyFile | FileKind::MonitorFile | FileKind::ChoiceFile => 4_194_304,
         FileKind::PlanFile => 134_217_728,
         FileKind::RoundFile => 16_777_216,
     }

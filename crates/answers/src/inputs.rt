@@ -1,5 +1,6 @@
 // What a command has read, with what is to be done with it.
 use crate::checked::{Measured, Planned};
+use crate::chosen::Chosen;
 use crate::drilling::DrillNumbers;
 use crate::placed::Placed;
 use crate::tasks::{MonitorTask, TopologyTask};
@@ -12,6 +13,8 @@ pub enum FileInputs {
     OnTopology(TopologyTask, Topology),
     /// A topology and monitors of it.
     OnMonitors(MonitorTask, Placed),
+    /// A topology and a choice, under which it is to be planned.
+    OnChoice(Chosen),
     /// A plan that is to be checked.
     Check(Planned),
     /// Rounds that are to be solved.

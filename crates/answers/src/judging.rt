@@ -1,12 +1,12 @@
 // Monitors are judged.
-ghost use Rattle.std.specs.Prelude.{◌≡◌, ◌<◌, ◌∷◌, [], All, IfOk};
+ghost use Rattle.std.specs.Prelude.{◌≡◌, ◌∷◌, [], IfOk};
 ghost use Rattle.tomo_base.specs.Sets.{has};
 ghost use Rattle.judge.specs.Verdict.{IsFoundBad};
 ghost use Rattle.answers.specs.Refusals.{only};
-ghost use Rattle.answers.specs.Judging.{yes_row as one_yes, bad_row as one_bad, Judges, TellsBad};
+ghost use Rattle.answers.specs.Judging.{yes_row as one_yes, Judges, TellsBad};
 
 use crate::answer::Answer;
-use crate::naming::add_names;
+use crate::naming::naming_row;
 use crate::placed::Placed;
 use crate::status::Status;
 use itoa::Buffer;
@@ -14,7 +14,6 @@ use judge::{Verdict, judge};
 use rows::Rows;
 use std::alloc::Global;
 use tomo_base::{NoMemory, NodeSet};
-use topology::Topology;
 
 // The row for monitors that identify.
 fn yes_row(alloc: Global, count: u32) -> Result<Rows, NoMemory>
@@ -28,18 +27,6 @@ fn yes_row(alloc: Global, count: u32) -> Result<Rows, NoMemory>
     Ok(rows)
 }
 
-// The row that names nodes.
-fn bad_row(alloc: Global, topology: &Topology, nodes: &NodeSet) -> Result<Rows, NoMemory>
-    requires { All (λ v. v < topology.now.graph.nodes) nodes.now }
-    ensures { IfOk result (λ rows. rows ≡ only (one_bad topology.now.names nodes.now ∷ [])) }
-{
-    let mut rows = Rows::new(alloc);
-    rows.field(b"bad")?;
-    add_names(&mut rows, topology, nodes.as_slice())?;
-    rows.close()?;
-    Ok(rows)
-}
-
 /// The answer where monitors do not identify every link.
 pub fn tell_bad(alloc: Global, placed: &Placed, nodes: &NodeSet) -> Result<Answer, NoMemory>
     requires { IsFoundBad placed.now.topology.graph (has placed.now.monitors) nodes.now }
@@ -47,7 +34,7 @@ pub fn tell_bad(alloc: Global, placed: &Placed, nodes: &NodeSet) -> Result<Answe
 {
     Ok(Answer {
         status: Status::Negative,
-        rows: bad_row(alloc, &placed.topology, nodes)?,
+        rows: naming_row(alloc, "bad", &placed.topology, nodes)?,
     })
 }
 

@@ -3,6 +3,7 @@
 
 mod answer;
 mod checked;
+mod chosen;
 mod commands;
 mod components;
 mod drilling;
@@ -23,13 +24,16 @@ mod tasks;
 
 pub use answer::Answer;
 pub use checked::{Checked, Measured, Planned};
+pub use chosen::Chosen;
 pub use commands::answer_to;
+pub use drill::{DRAWN_LINK_LIMIT, DRAWN_NODE_LIMIT};
 pub use drilling::DrillNumbers;
 pub use file_kind::{FileKind, limit_of};
 pub use inputs::{FileInputs, Inputs};
 pub use placed::Placed;
 pub use refusal::{
-    refuse_at, refuse_fault, refuse_monitors, refuse_plan, refuse_rounds, refuse_topology,
+    refuse_at, refuse_choice, refuse_fault, refuse_monitors, refuse_plan, refuse_rounds,
+    refuse_topology,
 };
 pub use status::Status;
 pub use tasks::{MonitorTask, TopologyTask};

@@ -2,7 +2,9 @@
 ghost use Rattle.std.specs.Prelude.{◌≡◌, ◌<◌, ◌+◌, ◌^◌, ◌++◌, ◌∷◌, [], length, map, All, IfOk, OnOk, slice_index_or};
 ghost use Rattle.simple_path.specs.Terms.{path_terms};
 ghost use Rattle.answers.specs.Refusals.{only};
-ghost use Rattle.answers.specs.Linking.{term_row, RefusesWord, TellsRecipe, TellsLink};
+ghost use Rattle.tomo_base.specs.Identify.{Identifies};
+ghost use Rattle.tomo_base.specs.Sets.{has};
+ghost use Rattle.answers.specs.Linking.{term_row, IsLinkRecipe, RefusesWord, TellsRecipe, TellsLink};
 
 use crate::answer::Answer;
 use crate::judging::tell_bad;
@@ -10,12 +12,12 @@ use crate::naming::add_names;
 use crate::placed::Placed;
 use crate::refusal::refuse;
 use crate::status::Status;
+use cross_links::recipe;
 use itoa::Buffer;
 use judge::{Verdict, judge};
-use plan_form::Plan;
-use planner::cross_plan_for;
+use plan_form::{Arranged, arrange};
 use rows::Rows;
-use simple_path::Term;
+use simple_path::{PathPool, Recipe, Recipes, Term};
 use std::alloc::Global;
 use tomo_base::NoMemory;
 use topology::Topology;
@@ -35,21 +37,46 @@ fn add_term(rows: &mut Rows, topology: &Topology, term: Term, path: &[u32]) -> R
     rows.close()
 }
 
-// The rows of the terms of a link's recipe in a plan.
-fn term_rows(alloc: Global, topology: &Topology, plan: &Plan, link: u32) -> Result<Rows, NoMemory>
-    requires link { link < length plan.now.recipes }
-    requires terms { All (λ t. t.path < length plan.now.paths) (slice_index_or plan.now.recipes link []) }
-    requires nodes { All (λ p. All (λ v. v < topology.now.graph.nodes) p) plan.now.paths }
-    ensures { IfOk result (λ rows. rows ≡ only (map (term_row topology.now.names) (path_terms plan.now.paths (slice_index_or plan.now.recipes link [])))) }
+// The rows of the terms of a recipe over paths.
+fn term_rows(
+    alloc: Global,
+    topology: &Topology,
+    paths: &PathPool,
+    recipe: &Recipe,
+) -> Result<Rows, NoMemory>
+    requires terms { All (λ t. t.path < length paths.now) recipe.now }
+    requires nodes { All (λ p. All (λ v. v < topology.now.graph.nodes) p) paths.now }
+    ensures { IfOk result (λ rows. rows ≡ only (map (term_row topology.now.names) (path_terms paths.now recipe.now))) }
 {
-    let pool = plan.paths();
     // A pool tells how much it holds.
-    let _count = pool.len();
+    let _count = paths.len();
     let mut rows = Rows::new(alloc);
-    for term in plan.recipes().at(link).terms() {
-        add_term(&mut rows, topology, *term, pool.path(term.path))?;
+    for term in recipe.terms() {
+        add_term(&mut rows, topology, *term, paths.path(term.path))?;
     }
     Ok(rows)
+}
+
+// The recipe of a link, as it would stand in a plan: with its paths turned and in order.
+fn arranged_recipe(alloc: Global, placed: &Placed, link: u32) -> Result<Arranged, NoMemory>
+    requires link { link < length placed.now.topology.graph.links }
+    requires identifies { Identifies placed.now.topology.graph (has placed.now.monitors) }
+    ensures one { IfOk result (λ a. length a.recipes ≡ 1) }
+    ensures recipe { IfOk result (λ a. IsLinkRecipe placed.now.topology.graph (has placed.now.monitors) link (path_terms a.paths (slice_index_or a.recipes 0 []))) }
+    ensures terms { IfOk result (λ a. All (λ t. t.path < length a.paths) (slice_index_or a.recipes 0 [])) }
+    ensures nodes { IfOk result (λ a. All (λ p. All (λ v. v < placed.now.topology.graph.nodes) p) a.paths) }
+{
+    let mut pool = PathPool::new(alloc);
+    let mut recipes = Recipes::new(alloc);
+    let terms = recipe(
+        alloc,
+        placed.topology.graph(),
+        &placed.monitors,
+        link,
+        &mut pool,
+    )?;
+    recipes.push(terms).map_err(|_| NoMemory)?;
+    arrange(alloc, &pool, &recipes)
 }
 
 // The recipe of a link, where the monitors identify every link.
@@ -60,10 +87,10 @@ fn tell_recipe(alloc: Global, placed: &Placed, link: u32) -> Result<Answer, NoMe
     if let Verdict::Bad(nodes) = judge(alloc, placed.topology.graph(), &placed.monitors)? {
         return tell_bad(alloc, placed, &nodes);
     }
-    let plan = cross_plan_for(alloc, &placed.topology, &placed.monitors)?;
+    let told = arranged_recipe(alloc, placed, link)?;
     Ok(Answer {
         status: Status::Done,
-        rows: term_rows(alloc, &placed.topology, &plan, link)?,
+        rows: term_rows(alloc, &placed.topology, &told.paths, told.recipes.at(0))?,
     })
 }
 

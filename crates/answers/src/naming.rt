@@ -1,8 +1,10 @@
 // Nodes are told by their names.
-ghost use Rattle.std.specs.Prelude.{◌≡◌, ◌<◌, ◌+◌, ◌^◌, ◌++◌, [], length, map, All, OnOk, slice_index_or};
+ghost use Rattle.std.specs.Prelude.{◌≡◌, ◌<◌, ◌+◌, ◌^◌, ◌++◌, ◌∷◌, [], length, map, All, IfOk, OnOk, slice_index_or};
+ghost use Rattle.answers.specs.Refusals.{only};
 
 use rows::Rows;
-use tomo_base::NoMemory;
+use std::alloc::Global;
+use tomo_base::{NoMemory, NodeSet};
 use topology::Topology;
 
 /// Adds the names of nodes as fields.
@@ -17,4 +19,21 @@ pub fn add_names(rows: &mut Rows, topology: &Topology, nodes: &[u32]) -> Result<
         rows.field(topology.name(v).as_bytes())?;
     }
     Ok(())
+}
+
+/// One row: a word, and the names of nodes.
+pub fn naming_row(
+    alloc: Global,
+    word: &str,
+    topology: &Topology,
+    nodes: &NodeSet,
+) -> Result<Rows, NoMemory>
+    requires { All (λ v. v < topology.now.graph.nodes) nodes.now }
+    ensures { IfOk result (λ rows. rows ≡ only ((word.now ∷ map (λ v. slice_index_or topology.now.names v []) nodes.now) ∷ [])) }
+{
+    let mut rows = Rows::new(alloc);
+    rows.field(word.as_bytes())?;
+    add_names(&mut rows, topology, nodes.as_slice())?;
+    rows.close()?;
+    Ok(rows)
 }

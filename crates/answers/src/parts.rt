@@ -1,9 +1,9 @@
 // The three-blocks of all blocks of a graph, and the block of each.
 ghost use Rattle.std.specs.Prelude.{ℕ, ◌≡◌, ◌↔◌, ◌≤◌, ◌<◌, ◌+◌, ◌*◌, ◌++◌, List, [], length, All, IsTrue, IfOk, OnOk, slice_index_or};
+ghost use Rattle.tomo_base.specs.Limits.{node_limit};
 ghost use Rattle.tomo_base.specs.Sets.{has};
 ghost use Rattle.tomo_base.specs.Blocks.{IsBlock, IsThreeBlock, IsThreeBlockOf};
-ghost use Rattle.tomo_base.specs.SetLists.{IsSetBelow, AreSetsWith, AreAllSets};
-ghost use Rattle.blocks.specs.Lists.{lists_of};
+ghost use Rattle.tomo_base.specs.SetLists.{IsSetBelow, AreSetsWith, AreAllSets, lists_of};
 ghost use Rattle.answers.specs.Components.{AreIn, AreHomes};
 
 use blocks::ordered_sets;
@@ -38,7 +38,7 @@ fn add_sets(alloc: Global, sets: &NodeSets, lists: &mut Vec<Vec<u32>>) -> Result
 pub fn all_three_blocks(alloc: Global, g: &Graph, blocks: &NodeSets) -> Result<NodeSets, NoMemory>
     requires blocks { AreAllSets g.now.nodes (IsBlock g.now) blocks.now }
     requires few { length blocks.now ≤ 2 * g.now.nodes }
-    requires limit { g.now.nodes ≤ 1000 }
+    requires limit { g.now.nodes ≤ node_limit }
     ensures sets { IfOk result (AreAllSets g.now.nodes (IsThreeBlock g.now)) }
     ensures few { IfOk result (λ sets. length sets ≤ 2000000) }
 {

@@ -3,10 +3,12 @@ ghost use Rattle.std.specs.Prelude.{◌≡◌, ◌<◌, ◌≤◌, ◌*◌, ◌^
 ghost use Rattle.plan_form.specs.Parts.{IsWellFormed};
 ghost use Rattle.plan_form.specs.Good.{IsGoodPlan};
 ghost use Rattle.plan_form.specs.PlanRows.{row_count, plan_rows as rows_of_plan};
-ghost use Rattle.answers.specs.Planning.{IsKept, Plans, PlansFor};
+ghost use Rattle.answers.specs.Planning.{IsKept, Plans, PlansFor, PlansWith};
 
 use crate::answer::Answer;
+use crate::chosen::Chosen;
 use crate::judging::tell_bad;
+use crate::naming::naming_row;
 use crate::placed::Placed;
 use crate::status::Status;
 use judge::{Verdict, judge};
@@ -14,7 +16,7 @@ use plan_form::laws::{
     good_plan_is_within_limits, printed_plan_is_read_back, printed_plan_is_short,
 };
 use plan_form::{Plan, plan_rows};
-use planner::{make_plan, plan_for};
+use planner::{Made, make_plan, make_plan_with, plan_for};
 use std::alloc::Global;
 use tomo_base::NoMemory;
 use topology::Topology;
@@ -57,4 +59,17 @@ pub fn plan_paths(alloc: Global, placed: &Placed) -> Result<Answer, NoMemory>
     }
     let plan = plan_for(alloc, &placed.topology, &placed.monitors)?;
     tell_plan(alloc, &placed.topology, &plan)
+}
+
+/// Plans a network under a choice.
+pub fn plan_chosen(alloc: Global, chosen: &Chosen) -> Result<Answer, NoMemory>
+    ensures { IfOk result (λ a. PlansWith chosen.now.topology chosen.now.choice a.status a.rows.closed) }
+{
+    match make_plan_with(alloc, &chosen.topology, &chosen.choice)? {
+        Made::Plan(plan) => tell_plan(alloc, &chosen.topology, &plan),
+        Made::Impossible(bad) => Ok(Answer {
+            status: Status::Negative,
+            rows: naming_row(alloc, "impossible", &chosen.topology, &bad)?,
+        }),
+    }
 }

@@ -2,7 +2,7 @@
 ghost use Rattle.std.specs.Prelude.{◌≡◌, ◌≢◌, IfOk, decimal};
 ghost use Rattle.topology.specs.Topology.{names_of};
 ghost use Rattle.topology.specs.Faults.{examined, IsTopoFault};
-ghost use Rattle.answers.specs.Refusals.{refused, topology_reason, topology_place, monitor_reason, monitor_place, plan_reason, plan_place, check_reason, fault_number, round_reason, round_place};
+ghost use Rattle.answers.specs.Refusals.{refused, topology_reason, topology_place, monitor_reason, monitor_place, choice_reason, choice_place, plan_reason, plan_place, check_reason, fault_number, round_reason, round_place};
 
 use cert_check::Fault;
 use itoa::Buffer;
@@ -11,7 +11,7 @@ use round_reader::RoundFault;
 use rows::Rows;
 use std::alloc::Global;
 use tomo_base::NoMemory;
-use topology::{MonFault, TopoFault, nth_name};
+use topology::{ChoiceFault, MonFault, TopoFault, nth_name};
 
 /// The row that refuses a word for a reason, at a place.
 pub fn refuse(alloc: Global, word: &str, reason: &str, place: &str) -> Result<Rows, NoMemory>
@@ -72,6 +72,20 @@ pub fn refuse_monitors(alloc: Global, word: &str, fault: MonFault) -> Result<Row
     }
 }
 
+/// The row that refuses a choice.
+pub fn refuse_choice(alloc: Global, word: &str, fault: ChoiceFault) -> Result<Rows, NoMemory>
+    ensures cause { IfOk result (λ refusal. fault ≢ ChoiceFault.NoMemory) }
+    ensures row { IfOk result (λ refusal. refusal ≡ refused word.now (choice_reason fault) (choice_place fault)) }
+{
+    match fault {
+        ChoiceFault::NoMemory => Err(NoMemory),
+        ChoiceFault::Width(row) => refuse_at(alloc, word, "width", u64::from(row)),
+        ChoiceFault::Word(row) => refuse_at(alloc, word, "word", u64::from(row)),
+        ChoiceFault::Unknown(row) => refuse_at(alloc, word, "unknown", u64::from(row)),
+        ChoiceFault::Clash(row) => refuse_at(alloc, word, "clash", u64::from(row)),
+    }
+}
+
 /// The row that refuses a plan.
 pub fn refuse_plan(alloc: Global, word: &str, fault: PlanFault) -> Result<Rows, NoMemory>
     ensures cause { IfOk result (λ refusal. fault ≢ PlanFault.NoMemory) }
@@ -94,6 +108,8 @@ pub fn refuse_fault(alloc: Global, word: &str, fault: Fault) -> Result<Rows, NoM
     match fault {
         Fault::Names(name) => refuse_at(alloc, word, "check-names", u64::from(name)),
         Fault::Links(link) => refuse_at(alloc, word, "check-links", u64::from(link)),
+        Fault::Must(forced) => refuse_at(alloc, word, "check-must", u64::from(forced)),
+        Fault::Not(barred) => refuse_at(alloc, word, "check-not", u64::from(barred)),
         Fault::Monitor(monitor) => refuse_at(alloc, word, "check-monitor", u64::from(monitor)),
         Fault::Pocket(pocket) => refuse_at(alloc, word, "check-pocket", u64::from(pocket)),
         Fault::Path(path) => refuse_at(alloc, word, "check-path", u64::from(path)),

@@ -39,6 +39,8 @@ fn bad_row(alloc: Global, fault: Fault) -> Result<Rows, NoMemory>
     match fault {
         Fault::Names(name) => bad_part(alloc, "names", name),
         Fault::Links(link) => bad_part(alloc, "links", link),
+        Fault::Must(forced) => bad_part(alloc, "must", forced),
+        Fault::Not(barred) => bad_part(alloc, "not", barred),
         Fault::Monitor(monitor) => bad_part(alloc, "monitor", monitor),
         Fault::Pocket(pocket) => bad_part(alloc, "pocket", pocket),
         Fault::Path(path) => bad_part(alloc, "path", path),

@@ -1,5 +1,6 @@
 // Rounds of sums are solved.
 ghost use Rattle.std.specs.Prelude.{◌≡◌, ◌≤◌, ◌<◌, ◌+◌, ◌^◌, ◌++◌, ◌∷◌, [], List, length, map, decimal, codes, IfOk, OnOk};
+ghost use Rattle.tomo_base.specs.Limits.{link_limit};
 ghost use Rattle.plan_form.specs.PlanRows.{AddsRows, numbered};
 ghost use Rattle.answers.specs.Refusals.{only};
 ghost use Rattle.answers.specs.Rounds.{Outcome, AreOutcomes, why_word, told, round_row, ends_row, refusals, refused_count, count_row, solution_status, Solves};
@@ -33,7 +34,7 @@ fn add_link(rows: &mut Rows, topology: &Topology, i: u32, link: Link) -> Result<
 fn add_links(rows: &mut Rows, topology: &Topology) -> Result<(), NoMemory>
     requires { rows.old ≡ only [] }
     ensures rows { OnOk result (AddsRows rows.old rows.new (numbered (ends_row topology.now.names) 0 topology.now.graph.links)) }
-    ensures few { OnOk result (length rows.new.closed ≤ 4000) }
+    ensures few { OnOk result (length rows.new.closed ≤ link_limit) }
 {
     let links = topology.graph().links();
     for (i, link) in links.iter().enumerate() {
@@ -92,7 +93,7 @@ fn add_told(rows: &mut Rows, verdict: Verdict, delays: &Delays) -> Result<(), No
 
 // Adds the row of a round.
 fn add_round(rows: &mut Rows, k: u32, verdict: Verdict, delays: &Delays) -> Result<(), NoMemory>
-    requires few { length delays.now ≤ 4000 }
+    requires few { length delays.now ≤ link_limit }
     requires room { length rows.old.closed + 1 < 2 ^ 32 }
     requires between { rows.old.current ≡ [] }
     ensures { OnOk result (AddsRows rows.old rows.new ((codes "round" ∷ decimal k ∷ told verdict delays.now) ∷ [])) }
@@ -117,7 +118,7 @@ fn refusals_of(verdict: Verdict) -> u32
 
 // Solves the rounds one after the other, adds their rows, and counts those that are refused.
 fn add_rounds(rows: &mut Rows, measured: &Measured, delays: &mut Delays) -> Result<u32, NoMemory>
-    requires few { length rows.old.closed ≤ 4000 }
+    requires few { length rows.old.closed ≤ link_limit }
     requires between { rows.old.current ≡ [] }
     requires one_each { length delays.old ≡ length measured.now.checked.topology.graph.links }
     ensures { IfOk result (λ refused. (outcomes : List Outcome)

@@ -1,13 +1,14 @@
 -- A set of nodes that one of its nodes cuts into two; blocks, by closed sets; and who owns the nodes outside a block.
 use Rattle.std.proofs.Common.{◌≡◌, ℕ, ◌+◌, ◌≤◌, ◌<◌, Bool, true, false, cond, not, ◌&&◌, ◌==◌, ◌⊎◌, IsTrue, refl, sym, ap, subst, ◌∙◌, inl, inr, arith}
 use Rattle.std.proofs.lemmas.Bool.{cases_Bool, both_ways, and_parts, and_from, and_left, and_right, eqb-true, eq-eqb, or_cases, or_left, or_right, cases_eq}
-use Rattle.tomo_base.specs.Network.{Network, linked}
+use Rattle.tomo_base.specs.Network.{Network}
 use Rattle.tomo_base.specs.Sets.{count, without, minus, meet, Within}
 use Rattle.tomo_base.proofs.Links.{linked_comm}
 use Rattle.tomo_base.proofs.Counts.{find}
-use Rattle.tomo_base.specs.Parting.{with_one, IsClosedIn, IsJoinedIn, IsJoinedWithoutOne}
+use Rattle.tomo_base.specs.Parting.{with_one, IsClosedIn, IsJoinedIn}
 use Rattle.tomo_base.proofs.Parting.{without-from, without-parts, minus-in, minus-out, closed-rest, joined-at}
 use Rattle.tomo_base.proofs.Picks.{count-split, count-within, count-without, count-removed, two-count}
+use Rattle.blocks.specs.Cutting.{BlockLike, OneOwner, MeetOne}
 use Rattle.blocks.proofs.OneSide.{side-firm, one-side}
 
 -- the first where the test holds
@@ -18,27 +19,11 @@ cond-on {b} x y e = subst (λ z. cond z x y ≡ x) (sym e) refl
 pub cond-off : {b : Bool} (x y : ℕ) → b ≡ false → cond b x y ≡ y
 cond-off {b} x y e = subst (λ z. cond z x y ≡ y) (sym e) refl
 
--- two nodes or more, connected without any one node
-pub record BlockLike (N : Network) (n : ℕ) (W : ℕ → Bool) : Type 0 where
-  pub two : 2 ≤ count n W
-  pub firm : IsJoinedWithoutOne N W
-
 -- a largest nonseparable set of nodes of V
 pub record Block (N : Network) (n : ℕ) (V B : ℕ → Bool) : Type 0 where
   pub inside : Within B V
   pub like : BlockLike N n B
   pub largest : (T : ℕ → Bool) → BlockLike N n T → Within T V → Within B T → Within T B
-
--- every node outside B has one node of B: alike for linked nodes, and the only node of B that it can be linked to
-pub record OneOwner (N : Network) (V B : ℕ → Bool) : Type 0 where
-  pub own : ℕ → ℕ
-  pub lands : (d : ℕ) → IsTrue (V d) → B d ≡ false → IsTrue (B (own d))
-  pub same : (d e : ℕ) → IsTrue (V d) → B d ≡ false → IsTrue (V e) → B e ≡ false → linked N d e ≡ true → own d ≡ own e
-  pub touch : (d x : ℕ) → IsTrue (V d) → B d ≡ false → IsTrue (B x) → linked N d x ≡ true → own d ≡ x
-
--- two sets that share at most one node
-abbrev pub MeetOne : (ℕ → Bool) → (ℕ → Bool) → Type 0
-MeetOne A B = (u v : ℕ) → IsTrue (A u) → IsTrue (B u) → IsTrue (A v) → IsTrue (B v) → u ≡ v
 
 -- smaller sets share no more
 pub meet-one : (A B A' B' : ℕ → Bool) → Within A' A → Within B' B → MeetOne A B → MeetOne A' B'

@@ -1,5 +1,5 @@
 -- cutting a connected graph at its cut vertices until nothing is left to cut gives exactly the blocks
-use Rattle.std.proofs.Common.{◌≢◌, ℕ, zero, suc, ◌+◌, ◌*◌, ◌-◌, ◌≤◌, ◌<◌, Bool, ◌||◌, ◌⊎◌, List, [], ◌∷◌, IsTrue, sym, subst, ◌∙◌, inl, inr, arith}
+use Rattle.std.proofs.Common.{◌≢◌, ℕ, zero, suc, ◌+◌, ◌≤◌, ◌<◌, Bool, ◌||◌, ◌⊎◌, List, [], ◌∷◌, IsTrue, sym, subst, ◌∙◌, inl, inr, arith}
 use Rattle.std.proofs.lemmas.Bool.{cases_Bool, both_ways, or_cases, or_left, or_right, cases_eq}
 use Rattle.tomo_base.specs.Network.{Network}
 use Rattle.tomo_base.specs.Sets.{count, without, Within}
@@ -7,30 +7,9 @@ use Rattle.tomo_base.specs.Parting.{with_one, IsJoinedIn, IsJoinedWithoutOne}
 use Rattle.tomo_base.proofs.Parting.{without-from, without-parts, joined-more, joined-at, joined-each}
 use Rattle.tomo_base.proofs.Reaching.{cut-or-joined}
 use Rattle.tomo_base.proofs.Picks.{count-within, pick1}
-use Rattle.blocks.proofs.SetLists.{Each, Some, Pairs, each-map, each-both, each-every, some-with, some-each, pairs-each, at-home}
-use Rattle.blocks.proofs.CutSets.{BlockLike, Block, OneOwner, MeetOne, meet-one, meet-sym, Cut, rest, cut-other, side-in, cut-firm, cut-two, cut-count, like-in-part, sides-meet, owner-part, owner-ext}
-
--- a set still to be cut
-pub record Rough (N : Network) (n : ℕ) (V S : ℕ → Bool) : Type 0 where
-  pub inside : Within S V
-  pub two : 2 ≤ count n S
-  pub firm : IsJoinedIn N S
-  pub owner : OneOwner N V S
-
--- a set that no node cuts
-pub record Ready (N : Network) (n : ℕ) (V S : ℕ → Bool) : Type 0 where
-  pub inside : Within S V
-  pub like : BlockLike N n S
-  pub owner : OneOwner N V S
-
--- the invariant of the cutting: what is to be cut, and what is ready
-pub record Cutting (N : Network) (n : ℕ) (V : ℕ → Bool) (todo out : List (ℕ → Bool)) : Type 0 where
-  pub rough : Each (Rough N n V) todo
-  pub ready : Each (Ready N n V) out
-  pub cover : (T : ℕ → Bool) → BlockLike N n T → Within T V → Some (Within T) todo ⊎ Some (Within T) out
-  pub apart : Pairs MeetOne todo
-  pub apart_out : Pairs MeetOne out
-  pub across : Each (λ A. Each (MeetOne A) out) todo
+use Rattle.blocks.specs.Cutting.{Each, Some, Pairs, BlockLike, OneOwner, MeetOne, Rough, Ready, Cutting, weight}
+use Rattle.blocks.proofs.SetLists.{each-map, each-both, each-every, some-with, some-each, pairs-each, at-home}
+use Rattle.blocks.proofs.CutSets.{Block, meet-one, meet-sym, Cut, rest, cut-other, side-in, cut-firm, cut-two, cut-count, like-in-part, sides-meet, owner-part, owner-ext}
 
 -- at first all nodes are to be cut
 pub cutting-start : (N : Network) (n : ℕ) (V : ℕ → Bool) → 2 ≤ count n V → IsJoinedIn N V → Cutting N n V (V ∷ []) []
@@ -154,11 +133,6 @@ find-cut N S n bound two (suc k) = elim (find-cut N S n bound two k) [
         ]
   ]
 ]
-
--- what is left to cut
-abbrev pub weight : ℕ → List (ℕ → Bool) → ℕ
-weight n [] = 0
-weight n (S ∷ todo) = (2 * count n S - 3) + weight n todo
 
 -- cutting comes to an end
 pub cut-all : (N : Network) (n : ℕ) (V : ℕ → Bool) → ((v : ℕ) → IsTrue (V v) → v < n) → (f : ℕ) (todo out : List (ℕ → Bool)) → weight n todo < f

@@ -6,11 +6,12 @@ use Rattle.std.proofs.lemmas.Bool.{cases_eq, cases_lt, cases_Bool, or_cases, or_
 use Rattle.std.proofs.lemmas.List.{take_more, append-nil, length-replicate, get_or-replicate, get_or_past}
 use Rattle.std.proofs.lemmas.List.Elements.{filter-append}
 use Rattle.std.proofs.lemmas.List.Kept.{IsStrictlyIncreasing-filter}
-use Rattle.tomo_base.specs.Sets.{has, without}
+use Rattle.tomo_base.specs.Sets.{has, members, minus, without}
 use Rattle.tomo_base.specs.Search.{mark_of}
 use Rattle.tomo_base.specs.SetLists.{IsSetBelow}
-use Rattle.tomo_base.proofs.Members.{has-append}
-use Rattle.tomo_base.proofs.Ascending.{All-has, All-from_has}
+use Rattle.tomo_base.proofs.Members.{has-append, has-members, members_below}
+use Rattle.tomo_base.proofs.Ascending.{All-has, All-from_has, members_ascend}
+use Rattle.gate_search.proofs.Marks.{mark_below}
 
 -- one number more that passes the test
 pub filter_more : (p : ℕ → Bool) (xs kept : List ℕ) (i d x : ℕ) → i < length xs → x ≡ get_or xs i d → p x ≡ true → kept ≡ filter p (take i xs) → kept ++ x ∷ [] ≡ filter p (take (i + 1) xs)
@@ -73,6 +74,10 @@ pub no_marks : (n w : ℕ) → mark_of (replicate n false) w ≡ has [] w
 unfolding has
 no_marks n w = elim (cases_lt w n) [ inl l ↦ get_or-replicate n w false false l | inr ge ↦ get_or_past (replicate n false) w false (omega (arith, ge, length-replicate n false)) ]
 
+-- none has one
+pub never_marked : (n w : ℕ) → mark_of (replicate n false) w ≡ false
+never_marked n w = elim (cases_lt w n) [ inl l ↦ get_or-replicate n w false false l | inr ge ↦ get_or_past (replicate n false) w false (omega (arith, ge, length-replicate n false)) ]
+
 -- marks with the node at the next place of a list
 pub marks_more : (n : ℕ) (xs : List ℕ) (marks : List Bool) (i d x w : ℕ) → i < length xs → x ≡ get_or xs i d → x < length marks
     → mark_of marks w ≡ has (take i xs) w → mark_of (set marks x true) w ≡ has (take (i + 1) xs) w
@@ -88,6 +93,30 @@ marks_more n xs marks i d x w l same room before =
 
     none : (b : Bool) → b ≡ (b || (false || false))
     none b = grind arith
+
+-- no marks are taken away
+pub marks_all : (marks : List Bool) (w : ℕ) → mark_of marks w ≡ minus (mark_of marks) (has []) w
+unfolding has
+marks_all marks w = kept (mark_of marks w)
+  where
+    kept : (b : Bool) → b ≡ (b && not false)
+    kept b = grind arith
+
+-- the mark of the node at the next place of a list is taken away
+pub marks_fewer : (xs : List ℕ) (first marks : List Bool) (i d x w : ℕ) → i < length xs → x ≡ get_or xs i d → x < length marks
+    → mark_of marks w ≡ minus (mark_of first) (has (take i xs)) w → mark_of (set marks x false) w ≡ minus (mark_of first) (has (take (i + 1) xs)) w
+unfolding has
+marks_fewer xs first marks i d x w l same room before =
+    rw (take_more xs i d l, has-append (take i xs) (get_or xs i d ∷ []) w, sym same) (elim (cases_eq w x) [
+      | inl e ↦ rw (e, get_or-set_same marks x false false room, eq-eqb x x refl) (out (mark_of first x) (has (take i xs) x))
+      | inr ne ↦ rw (get_or-set_other marks x w false false ne, before, ne_eqb x w (λ e. ne (sym e))) (none (mark_of first w) (has (take i xs) w))
+    ])
+  where
+    out : (a b : Bool) → false ≡ (a && not (b || (true || false)))
+    out a b = grind arith
+
+    none : (a b : Bool) → (a && not b) ≡ (a && not (b || (false || false)))
+    none a b = grind arith
 
 -- marks without one node
 pub marks_but : (xs : List ℕ) (marks : List Bool) (out w : ℕ) → out < length marks → mark_of marks w ≡ has xs w → mark_of (set marks out false) w ≡ without (has xs) out w
@@ -107,3 +136,17 @@ has-next xs i d x w old l same before =
   where
     regroup : (a b : Bool) → (a || b) ≡ (b || (a || false))
     regroup a b = grind arith
+
+-- the marked nodes
+pub marked_has : (marks : List Bool) (v : ℕ) → has (members (length marks) (mark_of marks)) v ≡ mark_of marks v
+marked_has marks v = elim (cases_lt v (length marks)) [
+  | inl l ↦ has-members (length marks) (mark_of marks) v l
+  | inr ge ↦ members_below (length marks) (mark_of marks) v ge ∙ sym (get_or_past marks v false ge)
+]
+
+-- are a set
+pub marked_set : (n : ℕ) (marks : List Bool) → length marks ≡ n → IsSetBelow n (members (length marks) (mark_of marks))
+marked_set n marks size = record {
+  ascending = members_ascend (length marks) (mark_of marks);
+  below = All-from_has (λ v. v < n) (members (length marks) (mark_of marks)) (λ v h. omega (arith, mark_below marks v (sym (marked_has marks v) ∙ h), size));
+}

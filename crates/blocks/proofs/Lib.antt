@@ -1,12 +1,14 @@
-pub mod Vectors
 pub mod Working
-pub mod CutVertices
 pub mod SameSets
 pub mod Filtering
-pub mod Looking
 pub mod Sweeping
 pub mod SetLists
 pub mod OneSide
 pub mod CutSets
 pub mod Cutting
 pub mod Unparted
+pub mod CuttingAt
+pub mod Holding
+pub mod Parts
+pub mod CutOff
+pub mod Dividing

@@ -2,8 +2,9 @@
 use Rattle.std.proofs.Common.{ℕ, ◌<◌, ◌≤◌, ◌↔◌, Bool, List, map, get_or, All, Contains, ap, ◌∙◌, arith}
 use Rattle.std.proofs.lemmas.List.{length-map, get_or-map}
 use Rattle.std.proofs.lemmas.List.Elements.{All-contains, All-contains_itself}
+use Rattle.tomo_base.specs.Limits.{graph_node_limit}
 use Rattle.tomo_base.specs.Sets.{has}
-use Rattle.tomo_base.specs.NodeLists.{node_limit, IsNodeSet}
+use Rattle.tomo_base.specs.NodeLists.{IsNodeSet}
 use Rattle.tomo_base.specs.SetLists.{IsSetBelow, AreSetsWith}
 
 -- what stands in a list has its value among the values
@@ -19,9 +20,9 @@ sets_same n P xs ys with_it same = record {
 }
 
 -- a set of nodes below n is a node set, where n is within the limit
-pub node_set : (n : ℕ) (xs : List ℕ) → n ≤ node_limit → IsSetBelow n xs → IsNodeSet xs
+pub node_set : (n : ℕ) (xs : List ℕ) → n ≤ graph_node_limit → IsSetBelow n xs → IsNodeSet xs
 node_set n xs few is = record { ascending = is.ascending; below = λ i e at. let low : get_or xs i e < n = is.below i e at in omega (arith, low, few) }
 
 -- so are lists of them
-pub node_sets : (n : ℕ) (xs : List (List ℕ)) → n ≤ node_limit → All (IsSetBelow n) xs → All IsNodeSet xs
+pub node_sets : (n : ℕ) (xs : List (List ℕ)) → n ≤ graph_node_limit → All (IsSetBelow n) xs → All IsNodeSet xs
 node_sets n xs few all k d l = node_set n (get_or xs k d) few (all k d l)

@@ -1,20 +1,6 @@
 -- what holds of each, of some, and of any two different places of a list of sets
-use Rattle.std.proofs.Common.{ℕ, Bool, ◌⊎◌, List, [], ◌∷◌, ◌++◌, inl, inr}
-
--- P holds of each set
-abbrev pub Each : ((ℕ → Bool) → Type 0) → List (ℕ → Bool) → Type 0
-Each P [] = Unit {0}
-Each P (x ∷ xs) = P x × Each P xs
-
--- P holds of some set
-abbrev pub Some : ((ℕ → Bool) → Type 0) → List (ℕ → Bool) → Type 0
-Some P [] = ⊥
-Some P (x ∷ xs) = P x ⊎ Some P xs
-
--- R holds of each set and each later one
-abbrev pub Pairs : ((ℕ → Bool) → (ℕ → Bool) → Type 0) → List (ℕ → Bool) → Type 0
-Pairs R [] = Unit {0}
-Pairs R (x ∷ xs) = Each (R x) xs × Pairs R xs
+use Rattle.std.proofs.Common.{ℕ, Bool, List, [], ◌∷◌, ◌++◌, inl, inr}
+use Rattle.blocks.specs.Cutting.{Each, Some, Pairs}
 
 -- what follows from P holds of each
 pub each-map : (P Q : (ℕ → Bool) → Type 0) → ((x : ℕ → Bool) → P x → Q x) → (xs : List (ℕ → Bool)) → Each P xs → Each Q xs

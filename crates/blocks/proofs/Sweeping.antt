@@ -11,7 +11,7 @@ use Rattle.tomo_base.specs.Search.{mark_of, entry_at, IsSearch}
 use Rattle.tomo_base.specs.SetLists.{IsSetBelow}
 use Rattle.tomo_base.proofs.Ascending.{All-has, has-at}
 use Rattle.tomo_base.proofs.Parting.{without-from, without-parts}
-use Rattle.tomo_base.proofs.Searching.{search_reaches}
+use Rattle.tomo_base.proofs.Reached.{search_reaches}
 use Rattle.tomo_base.proofs.Walks.{connected_by, connected_inside}
 use Rattle.blocks.specs.Sides.{AreSides}
 use Rattle.blocks.proofs.Filtering.{has-filter, IsSetBelow-filter, not_alone, another}

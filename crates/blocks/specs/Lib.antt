@@ -1,3 +1,5 @@
 pub mod Blocks
 pub mod Sides
-pub mod Lists
+pub mod Cutting
+pub mod Growing
+pub mod Working

@@ -1,9 +1,8 @@
 -- A set of nodes that one of its nodes cuts into two sides.
 use Rattle.std.specs.Prelude.{ℕ, ◌≡◌, ◌≢◌, ◌⊎◌, false, List, IsTrue}
 use Rattle.tomo_base.specs.Network.{Network, linked}
-use Rattle.tomo_base.specs.Sets.{has, without}
+use Rattle.tomo_base.specs.Sets.{has}
 use Rattle.tomo_base.specs.SetLists.{IsSetBelow}
-use Rattle.tomo_base.specs.Walks.{IsConnectedIn}
 
 -- the node w of the set cuts it into two sides: w alone stands in both, each has a node more, and no other node of the one is linked to one of the other
 pub record AreSides (g : Network) (nodes : List ℕ) (w : ℕ) (near far : List ℕ) : Type 0 where
@@ -19,7 +18,3 @@ pub record AreSides (g : Network) (nodes : List ℕ) (w : ℕ) (near far : List 
   pub parted : (u v : ℕ) → IsTrue (has near u) → u ≢ w → IsTrue (has far v) → v ≢ w → linked g u v ≡ false
   pub near_more : (v : ℕ) × IsTrue (has near v) × (v ≢ w)
   pub far_more : (v : ℕ) × IsTrue (has far v) × (v ≢ w)
-
--- the set stays connected without each of its nodes
-abbrev pub HasNoCut : Network → List ℕ → Type 0
-HasNoCut g nodes = (w : ℕ) → IsTrue (has nodes w) → IsConnectedIn g (without (has nodes) w)

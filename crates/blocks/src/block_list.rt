@@ -1,13 +1,18 @@
 // The blocks and the cut vertices of a connected graph.
-ghost use Rattle.std.specs.Prelude.{ℕ, ◌≡◌, ◌≤◌, ◌<◌, ◌*◌, ◌↔◌, length, IsTrue, IfOk};
-ghost use Rattle.tomo_base.specs.Sets.{has, members};
-ghost use Rattle.tomo_base.specs.Walks.{IsConnected, everything};
+ghost use Rattle.std.specs.Prelude.{ℕ, ◌≡◌, ◌≤◌, ◌<◌, ◌*◌, ◌↔◌, [], ◌∷◌, true, length, set, All, IsTrue, IfOk, OnOk};
+ghost use Rattle.tomo_base.specs.Sets.{has, members, without};
+ghost use Rattle.tomo_base.specs.Search.{mark_of};
+ghost use Rattle.tomo_base.specs.Walks.{IsConnected, IsConnectedIn, everything};
+ghost use Rattle.gate_search.specs.Stops.{IsRoom};
 ghost use Rattle.tomo_base.specs.Blocks.{IsBlock, IsCutVertex};
-ghost use Rattle.tomo_base.specs.SetLists.{IsSetBelow, AreSetsWith, AreAllSets};
-ghost use Rattle.blocks.specs.Lists.{lists_of};
+ghost use Rattle.tomo_base.specs.SetLists.{IsSetBelow, AreSetsWith, AreAllSets, lists_of};
+ghost use Rattle.blocks.specs.Working.{IsPart, IsPutOff, Working, weight_of};
 
+use crate::growing::{Growth, begin, hold_way, step};
+use crate::marks::{marked, marks_of, unmark};
 use crate::node_lists::ordered_sets;
-use crate::sides::{find_sides, sides_at};
+use crate::sides::sides_at;
+use gate_search::{GateSearch, take_free};
 use std::alloc::Global;
 use std::marker::Model;
 use tomo_base::{Graph, NoMemory, NodeSet, NodeSets};
@@ -43,11 +48,19 @@ impl BlockList {
     }
 }
 
-// A connected set of nodes that is still to be cut, and the node from which on it is first looked for one that cuts it.
+// A connected set of nodes that is still to be cut, and one of its nodes.
 #[derive(Drop)]
-struct Part {
-    nodes: Vec<u32>,
-    from: u32,
+pub struct Part {
+    pub nodes: Vec<u32>,
+    pub root: u32,
+}
+
+// Sets that are still to be cut, sets that no node cuts, and a mark for each node: whether it has cut a set.
+#[derive(Drop)]
+pub struct Work {
+    pub todo: Vec<Part>,
+    pub found: Vec<Vec<u32>>,
+    pub cuts: Vec<bool>,
 }
 
 // All nodes of a graph of n nodes.
@@ -61,71 +74,124 @@ fn all_nodes(alloc: Global, n: u32) -> Result<Vec<u32>, NoMemory>
     Ok(all)
 }
 
-// Whether the graph is not connected without the node.
-fn is_cut(alloc: Global, g: &Graph, all: &[u32], v: u32) -> Result<bool, NoMemory>
-    requires two { 2 ≤ g.now.nodes }
-    requires all { all.now ≡ members g.now.nodes everything }
-    requires node { v < g.now.nodes }
-    ensures { IfOk result (λ cuts. IsTrue cuts ↔ IsCutVertex g.now v) }
+// Puts what the node d cuts off, with d, among the parts.
+fn put_off(alloc: Global, g: &Graph, side: &[u32], d: u32, work: &mut Work) -> Result<(), NoMemory>
+    requires side { All (λ v. v < g.now.nodes) side.now }
+    requires node { d < g.now.nodes }
+    requires marks { length work.old.cuts.items ≡ g.now.nodes }
+    ensures part { OnOk result (IsPutOff g.now side.now d work.old.todo.items work.new.todo.items) }
+    ensures found { OnOk result (work.new.found ≡ work.old.found) }
+    ensures cuts { OnOk result (work.new.cuts.items ≡ set work.old.cuts.items d true) }
 {
-    let _nodes = g.nodes();
-    match sides_at(alloc, g, all, v)? {
-        Some(_) => Ok(true),
-        None => Ok(false),
-    }
+    let mut inside = marks_of(alloc, g.nodes(), side)?;
+    inside[d as usize] = true;
+    let nodes = marked(alloc, &inside)?;
+    work.todo.push(Part { nodes, root: d })?;
+    work.cuts[d as usize] = true;
+    Ok(())
 }
 
-// The nodes without which the graph is not connected.
-fn cut_vertices(alloc: Global, g: &Graph) -> Result<NodeSet, NoMemory>
-    requires { 2 ≤ g.now.nodes }
-    ensures cuts { IfOk result (λ cuts. (v : ℕ) → IsTrue (has cuts v) ↔ IsCutVertex g.now v) }
-    ensures set { IfOk result (IsSetBelow g.now.nodes) }
+// Lets the held nodes of a part grow that its root does not cut, and puts off what other nodes cut off, until all that is left is held:
+// no node cuts it.
+fn grow_block(
+    alloc: Global,
+    g: &Graph,
+    part: &Part,
+    search: &mut GateSearch,
+    work: &mut Work,
+) -> Result<(), NoMemory>
+    requires working { Working g.now (has part.now.nodes.items ∷ []) work.old }
+    requires part { IsPart g.now part.now }
+    requires whole { IsConnectedIn g.now (without (has part.now.nodes.items) part.now.root) }
+    requires room { IsRoom g.now.nodes search.old.found }
+    ensures working { OnOk result (Working g.now [] work.new) }
+    ensures lighter { OnOk result (weight_of g.now [] work.new < weight_of g.now (has part.now.nodes.items ∷ []) work.old) }
+    ensures room { OnOk result (IsRoom g.now.nodes search.new.found) }
 {
-    let all = all_nodes(alloc, g.nodes())?;
-    let mut cuts = NodeSet::new(alloc);
-    for v in 0..g.nodes() {
-        if is_cut(alloc, g, &all, v)? {
-            cuts.insert(v)?;
+    let mut nodes = marks_of(alloc, g.nodes(), &part.nodes)?;
+    let mut free = begin(alloc, g, &nodes, part.root)?;
+    let mut starts = Vec::new(alloc);
+    let mut x = 0;
+    while x < g.nodes() {
+        if free[x as usize] {
+            let start = take_free(&free, &mut starts, x);
+            match step(g, &nodes, &free, start, search)? {
+                Growth::Way(y) => hold_way(g, search, y, &mut free, &mut starts)?,
+                Growth::Cut(d) => {
+                    put_off(alloc, g, &search.found.order, d, work)?;
+                    unmark(&mut nodes, &search.found.order);
+                    unmark(&mut free, &search.found.order);
+                }
+            }
+        } else {
+            x += 1;
         }
     }
-    Ok(cuts)
+    work.found.push(marked(alloc, &nodes)?)?;
+    Ok(())
 }
 
-// The blocks, in no order: sets are cut until no node cuts any.
-fn cut_up(alloc: Global, g: &Graph) -> Result<Vec<Vec<u32>>, NoMemory>
+// The blocks, in no order, and the cut vertices: sets are cut until no node cuts any.
+fn cut_up(alloc: Global, g: &Graph) -> Result<Work, NoMemory>
     requires connected { IsConnected g.now }
     requires two { 2 ≤ g.now.nodes }
-    ensures blocks { IfOk result (λ found. AreSetsWith g.now.nodes (IsBlock g.now) (lists_of found.items)) }
-    ensures few { IfOk result (λ found. length found.items ≤ 2 * g.now.nodes) }
+    ensures blocks { IfOk result (λ w. AreSetsWith g.now.nodes (IsBlock g.now) (lists_of w.found.items)) }
+    ensures few { IfOk result (λ w. length w.found.items ≤ 2 * g.now.nodes) }
+    ensures cuts { IfOk result (λ w. (v : ℕ) → IsTrue (mark_of w.cuts.items v) ↔ IsCutVertex g.now v) }
+    ensures marks { IfOk result (λ w. length w.cuts.items ≡ g.now.nodes) }
 {
-    let mut found = Vec::new(alloc);
-    let mut todo = Vec::new(alloc);
-    todo.push(Part {
-        nodes: all_nodes(alloc, g.nodes())?,
-        from: 0,
+    let n = g.nodes();
+    let mut search = GateSearch::new(alloc, n)?;
+    let mut work = Work {
+        todo: Vec::new(alloc),
+        found: Vec::new(alloc),
+        cuts: vec![in alloc; false; n as usize]?,
+    };
+    work.todo.push(Part {
+        nodes: all_nodes(alloc, n)?,
+        root: 0,
     })?;
-    while let Some(part) = todo.pop() {
-        match find_sides(alloc, g, &part.nodes, part.from)? {
-            None => found.push(part.nodes)?,
+    while let Some(part) = work.todo.pop() {
+        match sides_at(alloc, g, &part.nodes, part.root)? {
+            None => grow_block(alloc, g, &part, &mut search, &mut work)?,
             Some(sides) => {
-                todo.push(Part {
-                    nodes: sides.far,
-                    from: sides.cut,
-                })?;
-                todo.push(Part {
+                let root = part.root;
+                work.cuts[root as usize] = true;
+                work.todo.push(Part {
                     nodes: sides.near,
-                    from: sides.cut,
+                    root,
+                })?;
+                work.todo.push(Part {
+                    nodes: sides.far,
+                    root,
                 })?;
             }
         }
     }
-    Ok(found)
+    Ok(work)
+}
+
+// The set of the nodes with a mark.
+fn set_marked(alloc: Global, marks: &[bool]) -> Result<NodeSet, NoMemory>
+    requires { length marks.now ≤ 10000 }
+    ensures nodes { IfOk result (λ s. (v : ℕ) → has s v ≡ mark_of marks.now v) }
+    ensures set { IfOk result (IsSetBelow (length marks.now)) }
+{
+    let mut set = NodeSet::new(alloc);
+    for v in 0..marks.len() {
+        if marks[v] {
+            set.insert(v as u32)?;
+        }
+    }
+    Ok(set)
 }
 
 /// The blocks and the cut vertices of a connected graph: exactly the largest sets of two nodes or more that are connected and stay so
-/// without any one node, and exactly the nodes without which the graph is not connected, ascending. Sets are cut at nodes that part them
-/// until none is left. After Hopcroft and Tarjan (1973), in another way: not one search numbers all nodes, but each node is tried by a search of
-/// its own. The searches, each linear in nodes and links, are at most about two for each node and three for each block.
+/// without any one node, and exactly the nodes without which the graph is not connected, ascending. After Hopcroft and Tarjan (1973), in
+/// another way: not one search numbers all nodes, but from a root of a set nodes are gathered that no single other node parts from it, each
+/// with a way between two gathered nodes that a search finds; where a search ends at a single gathered node, that node cuts off what the
+/// search has reached, which is worked on later by itself. For each block one search of its set, and searches that stop at the second
+/// gathered node: on most networks these look at each link a few times in all, and on a chain of n nodes at n²/2.
 pub fn blocks(alloc: Global, g: &Graph) -> Result<BlockList, NoMemory>
     requires connected { IsConnected g.now }
     requires two { 2 ≤ g.now.nodes }
@@ -135,8 +201,8 @@ pub fn blocks(alloc: Global, g: &Graph) -> Result<BlockList, NoMemory>
     ensures few { IfOk result (λ b. length b.list ≤ 2 * g.now.nodes) }
 {
     let _nodes = g.nodes();
-    let found = cut_up(alloc, g)?;
-    let list = ordered_sets(alloc, found)?;
-    let cuts = cut_vertices(alloc, g)?;
+    let work = cut_up(alloc, g)?;
+    let cuts = set_marked(alloc, &work.cuts)?;
+    let list = ordered_sets(alloc, work.found)?;
     Ok(BlockList { cuts, list })
 }

@@ -2,6 +2,8 @@
 #![tactic(auto)]
 
 mod block_list;
+mod growing;
+mod marks;
 mod node_lists;
 mod sides;
 

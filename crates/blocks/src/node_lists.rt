@@ -2,8 +2,7 @@
 ghost use Rattle.std.specs.Prelude.{ℕ, ◌≡◌, ◌<◌, ◌≤◌, ◌^◌, ◌↔◌, List, length, map, All, Contains, IfOk};
 ghost use Rattle.std.specs.List.Sorted.{IsStrictlySortedBy, IsStrictlyIncreasing};
 ghost use Rattle.tomo_base.specs.NodeLists.{IsNodeSet};
-ghost use Rattle.tomo_base.specs.SetLists.{set_cmp};
-ghost use Rattle.blocks.specs.Lists.{lists_of};
+ghost use Rattle.tomo_base.specs.SetLists.{set_cmp, lists_of};
 
 use std::alloc::Global;
 use tomo_base::{NoMemory, NodeSet, NodeSets};

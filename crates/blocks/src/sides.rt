@@ -1,19 +1,18 @@
 // Nodes that cut a set of nodes, and the sides that they leave.
-ghost use Rattle.std.specs.Prelude.{ℕ, ◌≡◌, ◌≢◌, ◌≤◌, ◌<◌, length, All, IsTrue, IfOk, IfSome, IfNone};
-ghost use Rattle.std.specs.List.Sorted.{IsStrictlyIncreasing};
+ghost use Rattle.std.specs.Prelude.{ℕ, ◌≡◌, ◌≤◌, ◌<◌, length, All, IsTrue, IfOk, IfSome, IfNone};
 ghost use Rattle.tomo_base.specs.Sets.{has, without};
 ghost use Rattle.tomo_base.specs.Search.{mark_of};
 ghost use Rattle.tomo_base.specs.SetLists.{IsSetBelow};
 ghost use Rattle.tomo_base.specs.Walks.{IsConnectedIn};
-ghost use Rattle.blocks.specs.Sides.{AreSides, HasNoCut};
+ghost use Rattle.blocks.specs.Sides.{AreSides};
 
+use crate::marks::marks_of;
 use std::alloc::Global;
 use tomo_base::{Graph, NoMemory, sweep};
 
-// A node that cuts a set, and the two sides of the set, each with this node.
+// The two sides of a set that a node cuts, each with this node.
 #[derive(Drop)]
 pub struct Sides {
-    pub cut: u32,
     pub near: Vec<u32>,
     pub far: Vec<u32>,
 }
@@ -25,10 +24,7 @@ fn marks_without(alloc: Global, n: u32, nodes: &[u32], out: u32) -> Result<Vec<b
     ensures length { IfOk result (λ marks. length marks.items ≡ n) }
     ensures marks { IfOk result (λ marks. (v : ℕ) → mark_of marks.items v ≡ without (has nodes.now) out v) }
 {
-    let mut marks = vec![in alloc; false; n as usize]?;
-    for &v in nodes {
-        marks[v as usize] = true;
-    }
+    let mut marks = marks_of(alloc, n, nodes)?;
     marks[out as usize] = false;
     Ok(marks)
 }
@@ -48,7 +44,6 @@ pub fn sides_at(
     requires node { IsTrue (has nodes.now cut) }
     ensures none { IfOk result (λ o. IfNone o (IsConnectedIn g.now (without (has nodes.now) cut))) }
     ensures sides { IfOk result (λ o. IfSome o (λ s. AreSides g.now nodes.now cut s.near.items s.far.items)) }
-    ensures cut { IfOk result (λ o. IfSome o (λ s. s.cut ≡ cut)) }
 {
     let n = g.nodes();
     let free = marks_without(alloc, n, nodes, cut)?;
@@ -69,51 +64,5 @@ pub fn sides_at(
     if far.len() == ALONE {
         return Ok(None);
     }
-    Ok(Some(Sides { cut, near, far }))
-}
-
-// The sides at the first node of the set, of those with low ≤ v < high, that cuts it.
-fn sides_among(
-    alloc: Global,
-    g: &Graph,
-    nodes: &[u32],
-    low: u32,
-    high: u32,
-) -> Result<Option<Sides>, NoMemory>
-    requires set { IsSetBelow g.now.nodes nodes.now }
-    requires two { 2 ≤ length nodes.now }
-    ensures none { IfOk result (λ o. IfNone o ((w : ℕ) → IsTrue (has nodes.now w) → low ≤ w → w < high → IsConnectedIn g.now (without (has nodes.now) w))) }
-    ensures sides { IfOk result (λ o. IfSome o (λ s. AreSides g.now nodes.now s.cut s.near.items s.far.items)) }
-{
-    for &v in nodes {
-        if v < low || high <= v {
-            continue;
-        }
-        if let Some(found) = sides_at(alloc, g, nodes, v)? {
-            return Ok(Some(found));
-        }
-    }
-    Ok(None)
-}
-
-// The sides at some node that cuts the set; those from `from` on are tried first.
-pub fn find_sides(
-    alloc: Global,
-    g: &Graph,
-    nodes: &[u32],
-    from: u32,
-) -> Result<Option<Sides>, NoMemory>
-    requires set { IsSetBelow g.now.nodes nodes.now }
-    requires two { 2 ≤ length nodes.now }
-    ensures none { IfOk result (λ o. IfNone o (HasNoCut g.now nodes.now)) }
-    ensures sides { IfOk result (λ o. IfSome o (λ s. AreSides g.now nodes.now s.cut s.near.items s.far.items)) }
-{
-    let n = g.nodes();
-    if let Some(found) = sides_among(alloc, g, nodes, from, n)? {
-        return Ok(Some(found));
-    }
-    if let Some(found) = sides_among(alloc, g, nodes, 0, from)? {
-        return Ok(Some(found));
-    }
-    Ok(None)
+    Ok(Some(Sides { near, far }))
 }

@@ -12,7 +12,7 @@ use Rattle.std.proofs.lemmas.Int.{to_z-of_z}
 use Rattle.tomo_base.specs.declared.graph.Link.{Link}
 use Rattle.tomo_base.specs.Search.{entry_at}
 use Rattle.tomo_base.specs.Recipes.{uses_of, gain_of, loss_of, weighted, IsRecipe}
-use Rattle.tomo_base.proofs.Entering.{slice_get-get_or}
+use Rattle.std.proofs.lemmas.Option.{slice_get-get_or}
 use Rattle.simple_path.specs.declared.recipe.Term.{Term}
 use Rattle.simple_path.specs.Terms.{path_terms}
 use Rattle.simple_path.specs.Pools.{nodes_in}
@@ -20,6 +20,7 @@ use Rattle.plan_form.specs.Parts.{IsCoefficient}
 use Rattle.cert_check.specs.declared.counts.Counts.{Counts}
 use Rattle.cert_check.specs.Counting.{HasCounts, IsCounted}
 use Rattle.cert_check.proofs.Uses.{uses_few}
+use Rattle.simple_path.proofs.Pools.{length-path_terms, path_within}
 
 -- the weights of one term more
 weighted-push : (w : ℤ → ℕ) (f : List ℕ → ℕ) (ts : List (ℤ × List ℕ)) (t : ℤ × List ℕ) → weighted w f (ts ++ t ∷ []) ≡ weighted w f ts + w t.0 * f t.1
@@ -159,22 +160,12 @@ pub terms_more : (paths : List (List ℕ)) (ts : List Term) (t : Term) → path_
 terms_more paths [] t = refl
 terms_more paths (s ∷ ts) t = ap (λ rest. (s.coef, get_or paths s.path []) ∷ rest) (terms_more paths ts t)
 
--- a path of a pool has no more nodes than the pool
-path_few : (paths : List (List ℕ)) (k : ℕ) → length (get_or paths k []) ≤ nodes_in paths
-path_few [] k = omega arith
-path_few (p ∷ paths) zero = omega arith
-path_few (p ∷ paths) (suc k) = omega (arith, path_few paths k)
-
-length-terms : (paths : List (List ℕ)) (ts : List Term) → length (path_terms paths ts) ≡ length ts
-length-terms paths [] = refl
-length-terms paths (t ∷ ts) = ap suc (length-terms paths ts)
-
 -- terms with small coefficients over paths of a pool
 terms_small : (l : Link) (paths : List (List ℕ)) (ts : List Term) → All (λ t. IsCoefficient t.coef) ts → All (λ t. IsCoefficient t.0 × (uses_of l t.1 ≤ nodes_in paths)) (path_terms paths ts)
 terms_small l paths [] each = λ k d lt. absurd (omega (arith, lt))
 terms_small l paths (t ∷ ts) each =
     All-cons (λ (u : ℤ × List ℕ). IsCoefficient u.0 × (uses_of l u.1 ≤ nodes_in paths)) (t.coef, get_or paths t.path []) (path_terms paths ts)
-    (each 0 t (omega arith), omega (arith, uses_few l (get_or paths t.path []), path_few paths t.path)) (terms_small l paths ts (All-tail (λ (u : Term). IsCoefficient u.coef) t ts each))
+    (each 0 t (omega arith), omega (arith, uses_few l (get_or paths t.path []), path_within paths t.path)) (terms_small l paths ts (All-tail (λ (u : Term). IsCoefficient u.coef) t ts each))
 
 gain_few : (z : ℤ) → IsCoefficient z → gain_of z ≤ 4
 gain_few (pos n) is = is.1
@@ -193,7 +184,7 @@ counts_small links paths ts c few each room is k = elim (cases_lt k (length link
       let h : Link = get_or links k d in
       let at : slice_get links k ≡ Some h = slice_get-get_or links k d l in
       let small = terms_small h paths ts each in
-      let long = length-terms paths ts in
+      let long = length-path_terms paths ts in
       let bound : length (path_terms paths ts) * (4 * nodes_in paths) ≤ 16 * (4 * nodes_in paths) = mul-le-mul (omega (arith, long, few)) (le_refl _) in (
         omega (arith, is.gained k h at, weight_few gain_of (uses_of h) (nodes_in paths) gain_few (path_terms paths ts) small, bound, room),
         omega (arith, is.lost k h at, weight_few loss_of (uses_of h) (nodes_in paths) loss_few (path_terms paths ts) small, bound, room),
@@ -206,7 +197,7 @@ pub room_left : (links : List Link) (paths : List (List ℕ)) (ts : List Term) (
     (k : ℕ) → (entry_at c.gains.items k + 4 * length (get_or paths j []) < 2 ^ 63) × (entry_at c.losses.items k + 4 * length (get_or paths j []) < 2 ^ 63)
 room_left links paths ts i j c few each room is k =
     let small = counts_small links paths (take i ts) c (omega (arith, length-take i ts, few)) (All-take (λ (t : Term). IsCoefficient t.coef) i ts each) room is k in
-    let path = path_few paths j in
+    let path = path_within paths j in
     (omega (arith, small.0, path, room), omega (arith, small.1, path, room))
 
 -- the coefficients of well-formed terms

@@ -1,4 +1,5 @@
 pub mod Places
+pub mod Chosen
 pub mod Seen
 pub mod Turns
 pub mod Uses

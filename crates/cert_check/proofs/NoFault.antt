@@ -1,5 +1,5 @@
 -- A good plan has no fault.
-use Rattle.std.proofs.Common.{◌≡◌, ap, ℕ, zero, suc, ◌-◌, ◌<◌, ◌⊎◌, List, [], ◌∷◌, length, slice_get, arith, inl, inr}
+use Rattle.std.proofs.Common.{◌≡◌, ap, ℕ, ◌-◌, ◌<◌, ◌⊎◌, List, [], length, slice_get, arith, inl, inr}
 use Rattle.std.proofs.lemmas.Map.Keys.{Less-from_sorted}
 use Rattle.tomo_base.specs.Network.{Network}
 use Rattle.tomo_base.specs.Sets.{has}
@@ -7,9 +7,10 @@ use Rattle.simple_path.specs.declared.recipe.Term.{Term}
 use Rattle.plan_form.specs.Good.{AreGoodPockets, AreGoodPaths, AreGoodRecipes}
 use Rattle.plan_form.specs.Order.{path_cmp}
 use Rattle.plan_form.specs.Parts.{PlanPocket}
-use Rattle.cert_check.specs.declared.report.Fault.TheVariants.{Names, Links, Monitor, Pocket, Path, Recipe}
+use Rattle.cert_check.specs.declared.report.Fault.TheVariants.{Names, Links, Must, Not, Monitor, Pocket, Path, Recipe}
 use Rattle.cert_check.specs.Faults.{AgreeAt, IsGoodPocketAt, IsGoodPathAt, IsGoodRecipeAt, path_at}
 use Rattle.cert_check.specs.Laws.{GoodHasNoFault}
+use Rattle.cert_check.proofs.Chosen.{forced_at, barred_at}
 use Rattle.cert_check.proofs.Places.{ascending_at}
 
 -- equal lists agree at each place
@@ -17,10 +18,10 @@ agree_at : {A : Type 0} (xs ys : List A) (i : ℕ) → xs ≡ ys → AgreeAt xs 
 agree_at xs ys i same = ap (λ zs. slice_get zs i) same
 
 -- good pockets are good at each place
-pockets_at : (g : Network) (pockets : List PlanPocket) (i : ℕ) → i < length pockets → AreGoodPockets g pockets → IsGoodPocketAt g pockets i
-pockets_at g pockets i l good =
+pockets_at : (g : Network) (forced : List ℕ) (pockets : List PlanPocket) (i : ℕ) → i < length pockets → AreGoodPockets g forced pockets → IsGoodPocketAt g forced pockets i
+pockets_at g forced pockets i l good =
     let none : PlanPocket = record { need = 0; nodes = [] } in
-    record { good = good.each i none l; apart = λ j lt. good.disjoint j i none lt l }
+    record { good = good.each i none l; free = good.free i none l; apart = λ j lt. good.disjoint j i none lt l }
 
 -- good paths are good at each place
 paths_at : (g : Network) (monitors : List ℕ) (paths : List (List ℕ)) (i : ℕ) → i < length paths → AreGoodPaths g (has monitors) paths → IsGoodPathAt g (has monitors) paths i
@@ -40,7 +41,9 @@ recipes_at g paths recipes i either good =
 pub no_fault : GoodHasNoFault
 no_fault t p (Names i) good fault = fault.1 (agree_at p.names t.names i good.names)
 no_fault t p (Links i) good fault = fault.1.1 (agree_at p.links t.graph.links i good.links)
-no_fault t p (Monitor i) good fault = fault.1.1.1 (ascending_at t.graph.nodes p.monitors good.monitors.nodes good.monitors.ascending i fault.1.0)
-no_fault t p (Pocket i) good fault = fault.2.1.1 (pockets_at t.graph p.pockets i fault.2.0 good.pockets)
-no_fault t p (Path i) good fault = fault.3.1.1 (paths_at t.graph p.monitors p.paths i fault.3.0 good.paths)
-no_fault t p (Recipe i) good fault = fault.5.1 (recipes_at t.graph p.paths p.recipes i fault.4 good.recipes)
+no_fault t p (Must i) good fault = fault.1.1.1 (forced_at t.graph p.monitors p.forced good.forced i fault.1.0)
+no_fault t p (Not i) good fault = fault.2.1.1 (barred_at t.graph p.forced p.monitors p.barred good.barred i fault.2.0)
+no_fault t p (Monitor i) good fault = fault.3.1.1 (ascending_at t.graph.nodes p.monitors good.monitors.nodes good.monitors.ascending i fault.3.0)
+no_fault t p (Pocket i) good fault = fault.1.1.1 (pockets_at t.graph p.forced p.pockets i fault.1.0 good.pockets)
+no_fault t p (Path i) good fault = fault.2.1.1 (paths_at t.graph p.monitors p.paths i fault.2.0 good.paths)
+no_fault t p (Recipe i) good fault = fault.4.1 (recipes_at t.graph p.paths p.recipes i fault.3 good.recipes)

@@ -3,9 +3,9 @@ use Rattle.std.proofs.Common.{refl, ◌≡◌, ◌≤◌, ◌<◌, ◌+◌, ◌-
 use Rattle.std.specs.Option.{is_some, IfNone}
 use Rattle.std.proofs.lemmas.Bool.{cases_eq, cases_lt, both_ways}
 use Rattle.simple_path.specs.declared.recipe.Term.{Term}
-use Rattle.tomo_base.proofs.Entering.{slice_get-get_or}
+use Rattle.std.proofs.lemmas.Option.{slice_get-get_or}
 use Rattle.std.specs.List.Sorted.{IsStrictlyIncreasing}
-use Rattle.cert_check.specs.Faults.{AgreeAt, AscendsAt, AllPlaces}
+use Rattle.cert_check.specs.Faults.{AgreeAt, AscendsAt, AllPlaces, IsChosenAt}
 
 -- lists of one length that agree at each place are the same
 pub same_items : {A : Type 0} (xs ys : List A) → length xs ≡ length ys → ((j : ℕ) → j < length xs → AgreeAt xs ys j) → xs ≡ ys
@@ -76,6 +76,12 @@ not_ascending n numbers i least to either at = elim either [
   ]
   | inr high ↦ absurd (omega (arith, high.1, at.below))
 ]
+
+-- a number that does not ascend, or is not in the set as is asked, is not chosen
+pub not_chosen : (n : ℕ) (set : ℕ → Bool) (inside : Bool) (numbers : List ℕ) (i least : ℕ) → AscendTo n numbers i least
+    → ((get_or numbers i 0 < least) ⊎ ((least ≤ get_or numbers i 0) × (n ≤ get_or numbers i 0))) ⊎ (set (get_or numbers i 0) ≡ inside → ⊥) → IsChosenAt n set inside numbers i → ⊥
+not_chosen n set inside numbers i least to (inl low) at = not_ascending n numbers i least to low at.ascends
+not_chosen n set inside numbers i least to (inr other) at = other at.as_asked
 
 -- nor do terms with such a number
 pub no_names : (n : ℕ) (terms : List Term) (i least : ℕ) (d : Term) → i < length terms → NamesTo n terms i least → ((get_or terms i d).path < least) ⊎ ((least ≤ (get_or terms i d).path) × (n ≤ (get_or terms i d).path)) →

@@ -1,5 +1,5 @@
 -- Pockets that share no node.
-use Rattle.std.proofs.Common.{refl, ◌≡◌, ◌<◌, ◌+◌, ◌==◌, ◌||◌, [], ℕ, Bool, true, false, List, length, take, get_or, All, IsTrue, sym, ap, subst, ◌∙◌, inl, inr, arith}
+use Rattle.std.proofs.Common.{refl, ◌≡◌, ◌<◌, ◌+◌, ◌==◌, ◌||◌, ◌⊎◌, ℕ, Bool, true, false, List, length, take, get_or, All, IsTrue, sym, ap, subst, ◌∙◌, inl, inr, arith}
 use Rattle.std.specs.List.Sorted.{IsStrictlyIncreasing}
 use Rattle.std.proofs.lemmas.List.{get_or-take, length-take}
 use Rattle.std.proofs.lemmas.Bool.{cases_Bool, cases_eq, cases_lt, both_ways, or_cases, or_parts}
@@ -37,26 +37,30 @@ outside_few g nodes out graph up is =
       | inr past ↦ absurd (both_ways _ (outside_below g (has nodes) v graph past) (sym (is v) ∙ there))
     ]
 
--- the list has exactly the nodes of the first i pockets
-abbrev pub IsSeen : List PlanPocket → ℕ → List ℕ → Type 0
-IsSeen pockets i seen = (w : ℕ) → (IsTrue (has seen w) → (j : ℕ) × (j < i) × IsTrue (has (pocket_at pockets j).nodes w)) × ((j : ℕ) → j < i → IsTrue (has (pocket_at pockets j).nodes w) → IsTrue (has seen w))
+-- the node is forced, or stands in one of the first i pockets
+abbrev pub IsTaken : List ℕ → List PlanPocket → ℕ → ℕ → Type 0
+IsTaken forced pockets i w = IsTrue (has forced w) ⊎ ((j : ℕ) × (j < i) × IsTrue (has (pocket_at pockets j).nodes w))
 
--- at first it has none
-pub seen_none : (pockets : List PlanPocket) (seen : List ℕ) → seen ≡ [] → IsSeen pockets 0 seen
-unfolding has
-seen_none pockets seen bare w = (λ there. absurd (both_ways false refl (subst (λ xs. has xs w ≡ true) bare there)), λ j l. absurd (omega (arith, l)))
+-- the list has exactly these nodes
+abbrev pub IsSeen : List ℕ → List PlanPocket → ℕ → List ℕ → Type 0
+IsSeen forced pockets i seen = (w : ℕ) → (IsTrue (has seen w) → IsTaken forced pockets i w) × (IsTaken forced pockets i w → IsTrue (has seen w))
+
+-- at first these are the forced nodes
+pub seen_forced : (forced : List ℕ) (pockets : List PlanPocket) (seen : List ℕ) → seen ≡ forced → IsSeen forced pockets 0 seen
+seen_forced forced pockets seen same w = (λ there. inl (subst (λ xs. has xs w ≡ true) same there), back)
+  where
+    back : IsTaken forced pockets 0 w → has seen w ≡ true
+    back (inl there) = subst (λ xs. has xs w ≡ true) (sym same) there
+    back (inr in_pocket) = absurd (omega (arith, in_pocket.1))
 
 -- with the nodes of one pocket more
-pub seen_more : (pockets : List PlanPocket) (i : ℕ) (old new : List ℕ) → IsSeen pockets i old → ((w : ℕ) → has new w ≡ (has old w || has (pocket_at pockets i).nodes w)) → IsSeen pockets (i + 1) new
-seen_more pockets i old new seen is w = (
+pub seen_more : (forced : List ℕ) (pockets : List PlanPocket) (i : ℕ) (old new : List ℕ) → IsSeen forced pockets i old → ((w : ℕ) → has new w ≡ (has old w || has (pocket_at pockets i).nodes w)) → IsSeen forced pockets (i + 1) new
+seen_more forced pockets i old new seen is w = (
   λ there. elim (or_cases (has old w) (has (pocket_at pockets i).nodes w) (sym (is w) ∙ there)) [
-    | inl before ↦ let at = (seen w).0 before in (at.0, omega (arith, at.1), at.2)
-    | inr here ↦ (i, omega arith, here)
+    | inl before ↦ later ((seen w).0 before)
+    | inr here ↦ inr (i, omega arith, here)
   ],
-  λ j l there. elim (cases_eq j i) [
-    | inl same ↦ is w ∙ right (has old w) _ (subst (λ k. has (pocket_at pockets k).nodes w ≡ true) same there)
-    | inr other ↦ is w ∙ left (has old w) _ ((seen w).1 j (omega (arith, l, other)) there)
-  ],
+  back,
 )
   where
     right : (a b : Bool) → b ≡ true → (a || b) ≡ true
@@ -65,24 +69,41 @@ seen_more pockets i old new seen is w = (
     left : (a b : Bool) → a ≡ true → (a || b) ≡ true
     left a b e = grind arith
 
+    later : IsTaken forced pockets i w → IsTaken forced pockets (i + 1) w
+    later (inl there) = inl there
+    later (inr at) = inr (at.0, omega (arith, at.1), at.2)
+
+    back : IsTaken forced pockets (i + 1) w → has new w ≡ true
+    back (inl there) = is w ∙ left (has old w) _ ((seen w).1 (inl there))
+    back (inr at) = elim (cases_eq at.0 i) [
+      | inl same ↦ is w ∙ right (has old w) _ (subst (λ k. has (pocket_at pockets k).nodes w ≡ true) same at.2)
+      | inr other ↦ is w ∙ left (has old w) _ ((seen w).1 (inr (at.0, omega (arith, at.1, other), at.2)))
+    ]
+
 -- a good pocket with new nodes is good at its place
-pub good_at : (g : Network) (pockets : List PlanPocket) (i : ℕ) (seen : List ℕ) → IsSeen pockets i seen → IsGoodPocket g (pocket_at pockets i) → All (λ v. has seen v ≡ false) (pocket_at pockets i).nodes → IsGoodPocketAt g pockets i
-good_at g pockets i seen is good new = record {
+pub good_at : (g : Network) (forced : List ℕ) (pockets : List PlanPocket) (i : ℕ) (seen : List ℕ) → IsSeen forced pockets i seen → IsGoodPocket g (pocket_at pockets i) → All (λ v. has seen v ≡ false) (pocket_at pockets i).nodes → IsGoodPocketAt g forced pockets i
+good_at g forced pockets i seen is good new = record {
   good = good;
-  apart = λ j l v node there. elim (cases_Bool (has (pocket_at pockets i).nodes v)) [
-    | inl here ↦ absurd (both_ways _ (All-has (λ u. has seen u ≡ false) (pocket_at pockets i).nodes new v here) ((is v).1 j l there))
-    | inr out ↦ out
-  ];
+  free = λ v node here. elim (cases_Bool (has forced v)) [ inl there ↦ absurd (untaken v here (inl there)) | inr out ↦ out ];
+  apart = λ j l v node there. elim (cases_Bool (has (pocket_at pockets i).nodes v)) [ inl here ↦ absurd (untaken v here (inr (j, l, there))) | inr out ↦ out ];
 }
+  where
+    untaken : (v : ℕ) → has (pocket_at pockets i).nodes v ≡ true → IsTaken forced pockets i v → ⊥
+    untaken v here taken = both_ways _ (All-has (λ u. has seen u ≡ false) (pocket_at pockets i).nodes new v here) ((is v).1 taken)
 
 -- one that is good at its place has new nodes
-pub new_at : (g : Network) (pockets : List PlanPocket) (i : ℕ) (seen : List ℕ) → IsSeen pockets i seen → IsGoodPocketAt g pockets i → All (λ v. has seen v ≡ false) (pocket_at pockets i).nodes
-new_at g pockets i seen is at = All-from_has (λ v. has seen v ≡ false) (pocket_at pockets i).nodes (λ v here. elim (cases_Bool (has seen v)) [
-  | inl there ↦
-      let before = (is v).0 there in
-      absurd (both_ways _ (at.apart before.0 before.1 v (All-has (λ u. u < g.nodes) (pocket_at pockets i).nodes at.good.nodes v here) before.2) here)
+pub new_at : (g : Network) (forced : List ℕ) (pockets : List PlanPocket) (i : ℕ) (seen : List ℕ) → IsSeen forced pockets i seen → IsGoodPocketAt g forced pockets i → All (λ v. has seen v ≡ false) (pocket_at pockets i).nodes
+new_at g forced pockets i seen is at = All-from_has (λ v. has seen v ≡ false) (pocket_at pockets i).nodes (λ v here. elim (cases_Bool (has seen v)) [
+  | inl there ↦ absurd (never v here ((is v).0 there))
   | inr new ↦ new
 ])
+  where
+    node : (v : ℕ) → has (pocket_at pockets i).nodes v ≡ true → v < g.nodes
+    node v here = All-has (λ u. u < g.nodes) (pocket_at pockets i).nodes at.good.nodes v here
+
+    never : (v : ℕ) → has (pocket_at pockets i).nodes v ≡ true → IsTaken forced pockets i v → ⊥
+    never v here (inl there) = both_ways _ (at.free v (node v here) here) there
+    never v here (inr before) = both_ways _ (at.apart before.0 before.1 v (node v here) before.2) here
 
 -- a node that was not in the set is not among those that were put into it before, where the nodes ascend
 pub still_new : (nodes old seen : List ℕ) (i : ℕ) → IsStrictlyIncreasing nodes → i < length nodes → ((w : ℕ) → has seen w ≡ (has old w || has (take i nodes) w)) → has old (get_or nodes i 0) ≡ false → has seen (get_or nodes i 0) ≡ false

@@ -7,7 +7,7 @@ use Rattle.tomo_base.specs.Sets.{has}
 use Rattle.tomo_base.specs.Walks.{IsWalk}
 use Rattle.tomo_base.proofs.Ascending.{has-more, All-from_has, place_in}
 use Rattle.tomo_base.proofs.Links.{linked_below}
-use Rattle.simple_path.proofs.Paths.{walk_at, end_at}
+use Rattle.tomo_base.proofs.Paths.{walk_at, end_at}
 use Rattle.plan_form.specs.Good.{EndsAscend}
 
 -- the first i nodes of the path, and no others, were met in this turn

@@ -1,27 +1,29 @@
 -- Parts that are good at each place are good, and what that shows.
-use Rattle.std.proofs.Common.{refl, ◌≡◌, ◌≤◌, ◌<◌, ◌+◌, ◌-◌, ◌++◌, ◌∷◌, [], ℕ, zero, suc, Bool, List, length, take, set, get_or, All, sym, ap, subst, ◌∙◌, arith}
+use Rattle.std.proofs.Common.{refl, ◌≡◌, ◌≤◌, ◌<◌, ◌+◌, ◌-◌, ◌++◌, ◌∷◌, [], ℕ, zero, suc, Bool, true, false, List, length, take, set, get_or, All, sym, ap, subst, ◌∙◌, arith}
 use Rattle.std.specs.List.{AllByRecursion}
 use Rattle.std.specs.List.Sorted.{IsStrictlySortedBy}
 use Rattle.std.specs.declared.cmp.Ordering.TheVariants.{Less}
 use Rattle.std.specs.Cmp.Lexicographic.{nat_list_cmp_total}
 use Rattle.std.proofs.lemmas.List.{get_or_default, take_more}
+use Rattle.tomo_base.specs.Limits.{node_limit}
 use Rattle.tomo_base.specs.Network.{Network}
-use Rattle.tomo_base.specs.Sets.{has, size}
+use Rattle.tomo_base.specs.Sets.{has, size, Avoids, IsInside}
 use Rattle.tomo_base.specs.Walks.{IsWalk}
 use Rattle.tomo_base.specs.Identify.{IsMonitorPath, Identified, Identifies}
 use Rattle.tomo_base.specs.Pockets.{Shows, need_of, needs_of}
-use Rattle.tomo_base.proofs.Ascending.{has-at}
+use Rattle.tomo_base.proofs.Ascending.{has-at, All-has}
 use Rattle.tomo_base.proofs.Counts.{count-some, count-le}
+use Rattle.tomo_base.proofs.Members.{count-has}
 use Rattle.ident_laws.proofs.Recipes.{recipes_identify}
-use Rattle.ident_laws.proofs.Shown.{pockets_bound}
+use Rattle.ident_laws.proofs.Shown.{pockets_bound_beside_forced}
 use Rattle.topology.specs.Topology.{Topo, IsTopology}
 use Rattle.simple_path.specs.declared.recipe.Term.{Term}
 use Rattle.plan_form.specs.Parts.{PlanPocket, PlanParts, IsWellFormed}
 use Rattle.plan_form.specs.Order.{path_cmp}
-use Rattle.plan_form.specs.Good.{AreGoodMonitors, IsGoodPocket, AreGoodPockets, EndsAscend, AreGoodPaths, AreGoodRecipes, IsGoodPlan, pocket_sets}
+use Rattle.plan_form.specs.Good.{AreGoodForced, AreGoodBarred, AreGoodMonitors, IsGoodPocket, AreGoodPockets, EndsAscend, AreGoodPaths, AreGoodRecipes, IsGoodPlan, pocket_sets}
 use Rattle.plan_form.proofs.Recipes.{good_recipes_are}
-use Rattle.tomo_base.specs.declared.graph.Link.{Link}
-use Rattle.cert_check.specs.Faults.{IsPlanOf, AllPlaces, AscendsAt, IsGoodPocketAt, pocket_at, IsGoodPathAt, IsGoodRecipeAt}
+use Rattle.cert_check.specs.Faults.{AllPlaces, AscendsAt, IsChosenAt, IsFirstBad, IsGoodBarredAt, IsGoodPocketAt, pocket_at, IsGoodPathAt, IsGoodRecipeAt}
+use Rattle.cert_check.proofs.Chosen.{HasBelow, barred_all, barred_first, barred_from, forced_all, forced_from}
 use Rattle.cert_check.proofs.Places.{ascending_from}
 
 -- monitors
@@ -29,11 +31,12 @@ pub monitors_from : (g : Network) (monitors : List ℕ) → AllPlaces (length mo
 monitors_from g monitors each = let whole = ascending_from g.nodes monitors each in record { nodes = whole.0; ascending = whole.1 }
 
 -- pockets
-pub pockets_from : (g : Network) (pockets : List PlanPocket) → AllPlaces (length pockets) (IsGoodPocketAt g pockets) → AreGoodPockets g pockets
-pockets_from g pockets each =
+pub pockets_from : (g : Network) (forced : List ℕ) (pockets : List PlanPocket) → AllPlaces (length pockets) (IsGoodPocketAt g forced pockets) → AreGoodPockets g forced pockets
+pockets_from g forced pockets each =
     let e : PlanPocket = record { need = 0; nodes = [] } in
     record {
       each = λ i d l. subst (IsGoodPocket g) (get_or_default pockets i e d l) (each i l).good;
+      free = λ i d l. subst (λ (k : PlanPocket). Avoids g (has k.nodes) (has forced)) (get_or_default pockets i e d l) (each i l).free;
       disjoint = λ i j d lt l. rw (get_or_default pockets i d e (omega (arith, lt, l)), get_or_default pockets j d e l) ((each j l).apart i lt);
     }
 
@@ -89,8 +92,8 @@ sets_at [] i d e l = absurd (omega (arith, l))
 sets_at (p ∷ ps) zero d e l = (omega arith, refl)
 sets_at (p ∷ ps) (suc i) d e l = let rest = sets_at ps i d e (omega (arith, l)) in (omega (arith, rest.0), rest.1)
 
-good_show : (g : Network) (pockets : List PlanPocket) → All (λ k. 0 < length k.nodes) pockets → AreGoodPockets g pockets → Shows g (pocket_sets pockets) (needs_of g (pocket_sets pockets))
-good_show g pockets some good = record {
+good_show : (g : Network) (forced : List ℕ) (pockets : List PlanPocket) → All (λ k. 0 < length k.nodes) pockets → AreGoodPockets g forced pockets → Shows g (pocket_sets pockets) (needs_of g (pocket_sets pockets))
+good_show g forced pockets some good = record {
   pockets = λ i d l.
       let e : PlanPocket = record { need = 0; nodes = d } in
       let at = sets_at pockets i d e l in
@@ -113,29 +116,49 @@ good_identify g p paths recipes =
     let identified : Identified g p.paths = recipes_identify g p.paths (good_recipes_are g p.paths p.recipes recipes) in
     (identified, λ d e first second same. identified d e first second (λ k q l. same (get_or p.paths k q) (paths.each k q l)))
 
--- the pockets of a good plan bound every set that identifies
-pub good_bound : (t : Topo) (p : PlanParts) → IsTopology t → IsWellFormed p → IsGoodPlan t.names t.graph p → (s : ℕ → Bool) → Identifies t.graph s → needs_of t.graph (pocket_sets p.pockets) ≤ size t.graph s
-good_bound t p topo formed good s other =
-    pockets_bound t.graph s (pocket_sets p.pockets) _ topo.graph topo.connected (omega (arith, topo.some_nodes)) (good_show t.graph p.pockets (λ i d l. (formed.pockets i d l).1.0) good.pockets) other
+-- how many the forced nodes and the pockets of a plan show
+abbrev pub shown : Network → PlanParts → ℕ
+shown g p = length p.forced + needs_of g (pocket_sets p.pockets)
 
--- so their needs add up to no more than there are nodes
-pub bound_few : (t : Topo) (p : PlanParts) → IsTopology t → IsWellFormed p → IsGoodPlan t.names t.graph p → needs_of t.graph (pocket_sets p.pockets) ≤ 1000
-bound_few t p topo formed good =
-    omega (arith, good_bound t p topo formed good (has p.monitors) (good_identify t.graph p good.paths good.recipes).1, count-le t.graph.nodes (has p.monitors), topo.few_nodes)
+-- the pockets of a good plan bound every set that identifies and holds the forced nodes
+pub good_bound : (t : Topo) (p : PlanParts) → IsTopology t → IsWellFormed p → IsGoodPlan t.names t.graph p → (s : ℕ → Bool) → Identifies t.graph s → IsInside t.graph (has p.forced) s → shown t.graph p ≤ size t.graph s
+good_bound t p topo formed good s other inside =
+    let bound = pockets_bound_beside_forced t.graph (has p.forced) s (pocket_sets p.pockets) _ topo.graph topo.connected (omega (arith, topo.some_nodes))
+    (good_show t.graph p.forced p.pockets (λ i d l. (formed.pockets.each i d l).1.0) good.pockets) free other inside in
+    omega (arith, bound, count-has t.graph.nodes p.forced good.forced.ascending good.forced.nodes)
+  where
+    free : All (λ q. Avoids t.graph (has q) (has p.forced)) (pocket_sets p.pockets)
+    free i d l =
+        let e : PlanPocket = record { need = 0; nodes = d } in
+        let at = sets_at p.pockets i d e l in
+        rw at.1 (good.pockets.free i e at.0)
+
+-- the bound of a good plan is not above the number of its monitors
+pub bound_within : (t : Topo) (p : PlanParts) → IsTopology t → IsWellFormed p → IsGoodPlan t.names t.graph p → shown t.graph p ≤ length p.monitors
+bound_within t p topo formed good =
+    let bound = good_bound t p topo formed good (has p.monitors) (good_identify t.graph p good.paths good.recipes).1 (λ v node there. All-has (λ u. has p.monitors u ≡ true) p.forced good.forced.are_monitors v there) in
+    omega (arith, bound, count-has t.graph.nodes p.monitors good.monitors.ascending good.monitors.nodes)
+
+-- a good plan has no more monitors than a topology has nodes
+pub monitors_few : (t : Topo) (p : PlanParts) → IsTopology t → IsGoodPlan t.names t.graph p → length p.monitors ≤ 1000
+monitors_few t p topo good = omega (arith, count-has t.graph.nodes p.monitors good.monitors.ascending good.monitors.nodes, count-le t.graph.nodes (has p.monitors), topo.few_nodes)
 
 -- ---- with what was read in the place of the parts
 
-pub plan_of : (t : Topo) (p : PlanParts) (g : Network) (names : List (List ℕ)) (links given : List Link) → g ≡ t.graph → names ≡ p.names → names ≡ t.names → links ≡ p.links → links ≡ given → given ≡ g.links → IsPlanOf t p
-plan_of t p g names links given graph name_list same_names link_list same_links given_list = record {
-  names = sym name_list ∙ same_names;
-  links = sym link_list ∙ (same_links ∙ (given_list ∙ ap (λ (h : Network). h.links) graph));
-}
+pub forced_read : (g : Network) (n : ℕ) (given monitors set read forced : List ℕ) → n ≡ g.nodes → given ≡ monitors → read ≡ forced → HasBelow n given (has set) → AllPlaces (length read) (IsChosenAt n (has set) true read) → AreGoodForced g monitors forced
+forced_read g n given monitors set read forced nodes list row_list below each = forced_from g monitors forced (forced_all g.nodes monitors (has set) (rw (nodes, list) at below) forced (rw (nodes, row_list) at each))
 
-pub monitors_read : (g h : Network) (n : ℕ) (given monitors : List ℕ) → h ≡ g → n ≡ h.nodes → given ≡ monitors → AllPlaces (length given) (AscendsAt n given) → AreGoodMonitors g monitors
-monitors_read g h n given monitors graph nodes list each = monitors_from g monitors (rw (list, nodes, graph) at each)
+pub barred_read : (g : Network) (n : ℕ) (given monitors set forced read barred : List ℕ) → n ≡ g.nodes → given ≡ monitors → read ≡ barred → HasBelow n given (has set) → AreGoodForced g monitors forced → AllPlaces (length read) (IsChosenAt n (has set) false read)
+    → AreGoodBarred g forced monitors barred
+barred_read g n given monitors set forced read barred nodes list row_list below good each =
+    barred_from g forced monitors barred (barred_all g.nodes monitors (has set) (rw (nodes, list) at below) forced barred good.are_monitors (rw (nodes, row_list) at each))
 
-pub pockets_read : (g h : Network) (pockets : List PlanPocket) → h ≡ g → AllPlaces (length pockets) (IsGoodPocketAt h pockets) → AreGoodPockets g pockets
-pockets_read g h pockets graph each = pockets_from g pockets (rw graph at each)
+pub barred_fault : (g : Network) (n : ℕ) (given monitors set forced read barred : List ℕ) (i : ℕ) → n ≡ g.nodes → given ≡ monitors → read ≡ barred → HasBelow n given (has set) → AreGoodForced g monitors forced
+    → IsFirstBad (length read) (IsChosenAt n (has set) false read) i → IsFirstBad (length barred) (IsGoodBarredAt g.nodes forced monitors barred) i
+barred_fault g n given monitors set forced read barred i nodes list row_list below good first = barred_first g.nodes monitors (has set) (rw (nodes, list) at below) forced barred i good.are_monitors (rw (nodes, row_list) at first)
+
+pub pockets_read : (g h : Network) (forced : List ℕ) (pockets : List PlanPocket) → h ≡ g → AllPlaces (length pockets) (IsGoodPocketAt h forced pockets) → AreGoodPockets g forced pockets
+pockets_read g h forced pockets graph each = pockets_from g forced pockets (rw graph at each)
 
 pub paths_read : (g h : Network) (set given monitors : List ℕ) (read paths : List (List ℕ)) → h ≡ g → set ≡ given → given ≡ monitors → read ≡ paths → AllPlaces (length read) (IsGoodPathAt h (has set) read) → AreGoodPaths g (has monitors) paths
 paths_read g h set given monitors read paths graph copied list pool each = paths_from g (has monitors) paths (rw (pool, copied, list, graph) at each)

@@ -1,9 +1,10 @@
 // The check of a plan.
 ghost use Rattle.std.specs.Prelude.{IfOk, IfSome, IfNone};
 ghost use Rattle.plan_form.specs.Good.{IsGoodPlan};
-ghost use Rattle.cert_check.specs.Faults.{IsFault};
+ghost use Rattle.cert_check.specs.Faults.{IsFault, IsPlanOf, HasGoodNodes};
 ghost use Rattle.cert_check.specs.Reports.{IsReport};
 
+use crate::choice::{first_not_chosen, numbers_below};
 use crate::first_parts::{first_not_ascending, first_other_link, first_other_name};
 use crate::paths::first_bad_path;
 use crate::pockets::{first_bad_pocket, node_set};
@@ -14,21 +15,48 @@ use std::alloc::Global;
 use tomo_base::NoMemory;
 use topology::Topology;
 
-// The first fault of a plan.
-fn first_fault(alloc: Global, t: &Topology, p: &Plan) -> Result<Option<Fault>, NoMemory>
+// The first fault of a plan's names and links.
+fn network_fault(t: &Topology, p: &Plan) -> Option<Fault>
+    ensures some { IfSome result (IsFault t.now p.now) }
+    ensures none { IfNone result (IsPlanOf t.now p.now) }
+{
+    if let Some(i) = first_other_name(t, p.names()) {
+        return Some(Fault::Names(i));
+    }
+    if let Some(i) = first_other_link(p.links(), t.graph().links()) {
+        return Some(Fault::Links(i));
+    }
+    None
+}
+
+// The first fault of the forced nodes, the barred nodes and the monitors.
+fn node_fault(alloc: Global, t: &Topology, p: &Plan) -> Result<Option<Fault>, NoMemory>
+    requires { IsPlanOf t.now p.now }
+    ensures some { IfOk result (λ o. IfSome o (IsFault t.now p.now)) }
+    ensures none { IfOk result (λ o. IfNone o (HasGoodNodes t.now p.now)) }
+{
+    let n = t.graph().nodes();
+    let monitors = numbers_below(alloc, n, p.monitors())?;
+    if let Some(i) = first_not_chosen(n, &monitors, true, p.forced()) {
+        return Ok(Some(Fault::Must(i)));
+    }
+    // Forced nodes are monitors, so what is no monitor is not forced.
+    if let Some(i) = first_not_chosen(n, &monitors, false, p.barred()) {
+        return Ok(Some(Fault::Not(i)));
+    }
+    if let Some(i) = first_not_ascending(n, p.monitors()) {
+        return Ok(Some(Fault::Monitor(i)));
+    }
+    Ok(None)
+}
+
+// The first fault of the pockets, the paths and the recipes.
+fn proof_fault(alloc: Global, t: &Topology, p: &Plan) -> Result<Option<Fault>, NoMemory>
+    requires { HasGoodNodes t.now p.now }
     ensures some { IfOk result (λ o. IfSome o (IsFault t.now p.now)) }
     ensures none { IfOk result (λ o. IfNone o (IsGoodPlan t.now.names t.now.graph p.now)) }
 {
     let g = t.graph();
-    if let Some(i) = first_other_name(t, p.names()) {
-        return Ok(Some(Fault::Names(i)));
-    }
-    if let Some(i) = first_other_link(p.links(), g.links()) {
-        return Ok(Some(Fault::Links(i)));
-    }
-    if let Some(i) = first_not_ascending(g.nodes(), p.monitors()) {
-        return Ok(Some(Fault::Monitor(i)));
-    }
     if let Some(i) = first_bad_pocket(alloc, g, p)? {
         return Ok(Some(Fault::Pocket(i)));
     }
@@ -42,13 +70,27 @@ fn first_fault(alloc: Global, t: &Topology, p: &Plan) -> Result<Option<Fault>, N
     Ok(None)
 }
 
+// The first fault of a plan.
+fn first_fault(alloc: Global, t: &Topology, p: &Plan) -> Result<Option<Fault>, NoMemory>
+    ensures some { IfOk result (λ o. IfSome o (IsFault t.now p.now)) }
+    ensures none { IfOk result (λ o. IfNone o (IsGoodPlan t.now.names t.now.graph p.now)) }
+{
+    if let Some(fault) = network_fault(t, p) {
+        return Ok(Some(fault));
+    }
+    if let Some(fault) = node_fault(alloc, t, p)? {
+        return Ok(Some(fault));
+    }
+    proof_fault(alloc, t, p)
+}
+
 // The report of a good plan.
 fn good_report(t: &Topology, p: &Plan) -> Report
     requires { IsGoodPlan t.now.names t.now.graph p.now }
     ensures { IsReport t.now p.now result }
 {
     let _graph = t.graph();
-    let mut bound = 0;
+    let mut bound = p.forced().len() as u32;
     for i in 0..p.pocket_count() {
         bound += p.pocket_need(i);
     }
@@ -58,8 +100,8 @@ fn good_report(t: &Topology, p: &Plan) -> Report
     }
 }
 
-/// Whether the plan is right for the topology: its first fault, or, where it has none, how many monitors it has, and how many its pockets
-/// show that every set that identifies has, at least. Good paths determine the delay of each link: the recipes show it. The parts are
+/// Whether the plan is right for the topology: its first fault, or, where it has none, how many monitors it has, and how many its forced
+/// nodes and pockets show that every set that identifies and holds the forced nodes has, at least. Good paths determine the delay of each link: the recipes show it. The parts are
 /// looked at in the order of the faults. Time is linear in the plan's paths and in those that its recipes name, but for the look-up of
 /// links, and in each pocket in the nodes and links of the topology. The error comes for want of memory alone.
 pub fn check(alloc: Global, t: &Topology, p: &Plan) -> Result<Report, NoMemory>

@@ -1,5 +1,6 @@
 // The names, links and monitors of a plan.
 ghost use Rattle.std.specs.Prelude.{◌≡◌, ◌≤◌, length, IfSome, IfNone};
+ghost use Rattle.tomo_base.specs.Limits.{graph_link_limit};
 ghost use Rattle.cert_check.specs.Faults.{IsFirstWithout, IsFirstBad, AllPlaces, AgreeAt, AscendsAt};
 
 use tomo_base::{Link, Words};
@@ -22,7 +23,7 @@ pub fn first_other_name(t: &Topology, names: &Words) -> Option<u32>
 
 // The first place at which the links differ from those given.
 pub fn first_other_link(links: &[Link], given: &[Link]) -> Option<u32>
-    requires { length given.now ≤ 20000 }
+    requires { length given.now ≤ graph_link_limit }
     ensures some { IfSome result (IsFirstWithout (AgreeAt links.now given.now)) }
     ensures none { IfNone result (links.now ≡ given.now) }
 {

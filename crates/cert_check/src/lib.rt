@@ -2,6 +2,7 @@
 #![tactic(auto)]
 
 mod checking;
+mod choice;
 mod counts;
 mod first_parts;
 pub mod laws;

@@ -1,7 +1,7 @@
 // The pockets of a plan.
 ghost use Rattle.std.specs.Prelude.{◌≡◌, ◌<◌, ◌||◌, ◌↔◌, ℕ, length, All, IfOk, IfSome, IfNone, IsTrue, false};
 ghost use Rattle.std.specs.List.Sorted.{IsStrictlyIncreasing};
-ghost use Rattle.tomo_base.specs.NodeLists.{node_limit};
+ghost use Rattle.tomo_base.specs.Limits.{graph_node_limit};
 ghost use Rattle.tomo_base.specs.Sets.{has};
 ghost use Rattle.plan_form.specs.Good.{IsGoodPocket};
 ghost use Rattle.cert_check.specs.Faults.{IsFirstBad, AllPlaces, IsGoodPocketAt};
@@ -13,7 +13,7 @@ use tomo_base::{Graph, NoMemory, NodeSet, need};
 
 // The set of these nodes.
 pub fn node_set(alloc: Global, nodes: &[u32]) -> Result<NodeSet, NoMemory>
-    requires below { All (λ v. v < node_limit) nodes.now }
+    requires below { All (λ v. v < graph_node_limit) nodes.now }
     requires ascending { IsStrictlyIncreasing nodes.now }
     ensures { IfOk result (λ s. s ≡ nodes.now) }
 {
@@ -47,7 +47,7 @@ fn is_good_pocket(
 
 // Puts the nodes into the set, and answers whether all are new.
 fn all_new(nodes: &[u32], seen: &mut NodeSet) -> Result<bool, NoMemory>
-    requires below { All (λ v. v < node_limit) nodes.now }
+    requires below { All (λ v. v < graph_node_limit) nodes.now }
     requires ascending { IsStrictlyIncreasing nodes.now }
     ensures new { IfOk result (λ new. IsTrue new ↔ All (λ v. has seen.old v ≡ false) nodes.now) }
     ensures nodes { IfOk result (λ new. IsTrue new → (w : ℕ) → has seen.new w ≡ (has seen.old w || has nodes.now w)) }
@@ -60,13 +60,16 @@ fn all_new(nodes: &[u32], seen: &mut NodeSet) -> Result<bool, NoMemory>
     Ok(true)
 }
 
-// The first pocket that is not good, or shares a node with an earlier one.
+// The first pocket that is not good, holds a forced node, or shares a node with an earlier one.
 pub fn first_bad_pocket(alloc: Global, g: &Graph, p: &Plan) -> Result<Option<u32>, NoMemory>
-    ensures some { IfOk result (λ o. IfSome o (IsFirstBad (length p.now.pockets) (IsGoodPocketAt g.now p.now.pockets))) }
-    ensures none { IfOk result (λ o. IfNone o (AllPlaces (length p.now.pockets) (IsGoodPocketAt g.now p.now.pockets))) }
+    requires below { All (λ v. v < g.now.nodes) p.now.forced }
+    requires ascending { IsStrictlyIncreasing p.now.forced }
+    ensures some { IfOk result (λ o. IfSome o (IsFirstBad (length p.now.pockets) (IsGoodPocketAt g.now p.now.forced p.now.pockets))) }
+    ensures none { IfOk result (λ o. IfNone o (AllPlaces (length p.now.pockets) (IsGoodPocketAt g.now p.now.forced p.now.pockets))) }
 {
     let _nodes = g.nodes();
-    let mut seen = NodeSet::new(alloc);
+    // The nodes that no further pocket may hold.
+    let mut seen = node_set(alloc, p.forced())?;
     for i in 0..p.pocket_count() {
         let nodes = p.pocket(i);
         if !is_good_pocket(alloc, g, nodes, p.pocket_need(i))? || !all_new(nodes, &mut seen)? {

@@ -7,10 +7,14 @@ pub enum Fault {
     Names(u32),
     /// The first place at which the links differ, their ends compared in order.
     Links(u32),
+    /// The first forced node that is no node, not greater than the one before it, or no monitor.
+    Must(u32),
+    /// The first barred node that is no node, not greater than the one before it, or is forced or a monitor.
+    Not(u32),
     /// The first monitor that is no node, or not greater than the one before it.
     Monitor(u32),
-    /// The first pocket whose nodes are no ascending nodes, that shares a node with an earlier one, has more than two outside neighbours,
-    /// or another need.
+    /// The first pocket whose nodes are no ascending nodes, that shares a node with an earlier one, holds a forced node, has more than two
+    /// outside neighbours, or another need.
     Pocket(u32),
     /// The first path that is no monitor path, whose first node is not less than its last, or that is not lexicographically greater than
     /// the path before it.
@@ -23,7 +27,8 @@ pub enum Fault {
 /// What a plan comes to.
 #[derive(Clone, Copy, Debug, PartialEq, Eq)]
 pub enum Report {
-    /// The plan is good: how many monitors it has, and how many its pockets show that every identifying set has, at least.
+    /// The plan is good: how many monitors it has, and how many its pockets show that every identifying set with the forced nodes has,
+    /// at least.
     Good { monitors: u32, bound: u32 },
     /// The first fault.
     Bad(Fault),

@@ -7,7 +7,8 @@ use Rattle.tomo_base.specs.Walks.{StepsFrom, NoneTwice, end_of}
 use Rattle.tomo_base.proofs.Walks.{StepsFrom-append, end_of-append}
 use Rattle.unit_flow.specs.Flows.{Task, IsTask, IsFlow, later_of, first_of, second_of}
 use Rattle.cross_links.specs.Steps.{IsLedOn, IsChoice}
-use Rattle.cross_links.proofs.Members.{off_rest, has_none, has_first, has_later, has_cases, has_not, has_end, append_cases, append_right, once_right, once_append, not_first}
+use Rattle.tomo_base.proofs.Members.{off_rest, has_none, has_first, has_later, has_cases, has_not, append_cases, append_right}
+use Rattle.tomo_base.proofs.Paths.{has_end, once_right, once_append, not_first}
 use Rattle.cross_links.specs.Ways.{freely, onto, IsWay, ThreeWays, with_lists}
 use Rattle.cross_links.proofs.Turned.{IsArm}
 use Rattle.cross_links.proofs.Ways.{leads_steps, leads_end, leads_last, leads_changed, way_avoids, arm_of, way_at, ways_apart}

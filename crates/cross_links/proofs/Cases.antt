@@ -9,7 +9,7 @@ use Rattle.tomo_base.specs.BadParts.{NoBadPart}
 use Rattle.tomo_base.proofs.Links.{linked_below, linked_comm}
 use Rattle.tomo_base.proofs.Ascending.{place_in}
 use Rattle.unit_flow.specs.Flows.{IsFlow, first_of, later_of, second_of, last_of}
-use Rattle.cross_links.proofs.Members.{has_none, has_first, has_not}
+use Rattle.tomo_base.proofs.Members.{has_none, has_first, has_not}
 use Rattle.cross_links.proofs.Ways.{leads_changed, leads_avoid, one_way, whole_at, end_at, way_at, ways_apart}
 use Rattle.cross_links.specs.Ways.{freely, beside, onto, IsWay, ThreeWays}
 use Rattle.cross_links.specs.Steps.{IsLedOn, IsChoice}

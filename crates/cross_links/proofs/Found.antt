@@ -1,10 +1,10 @@
 -- What searches over lists of nodes and over lists of paths find.
-use Rattle.std.proofs.Common.{ℕ, zero, suc, ◌+◌, ◌-◌, ◌<◌, ◌≡◌, true, false, ◌||◌, ◌==◌, List, [], ◌∷◌, ◌++◌, length, get_or, take, drop, Option, Some, None, refl, sym, ap, ◌∙◌, inl, inr, arith}
+use Rattle.std.proofs.Common.{ℕ, zero, suc, ◌+◌, ◌<◌, ◌≡◌, true, false, ◌||◌, ◌==◌, List, [], ◌∷◌, ◌++◌, length, get_or, take, drop, Option, Some, None, refl, sym, ap, ◌∙◌, inl, inr, arith}
 use Rattle.std.specs.List.{list_any, AllWithin, HoldsAt}
 use Rattle.std.specs.Option.{MatchOption}
 use Rattle.std.proofs.lemmas.Bool.{cases_eq, both_ways, eqb-true, eqb-false, false_from_ne_true}
 use Rattle.std.proofs.lemmas.List.Folds.{Any-from_list_any}
-use Rattle.std.proofs.lemmas.List.{get_or_default, take_all, length-drop}
+use Rattle.std.proofs.lemmas.List.{get_or_default}
 use Rattle.std.proofs.lemmas.Option.{none-some}
 use Rattle.tomo_base.specs.Sets.{has}
 use Rattle.tomo_base.proofs.Ascending.{place_in}
@@ -50,7 +50,3 @@ not_found xs v (Some k) is found = absurd (none-some k (sym is))
 not_found xs v None is found = false_from_ne_true (has xs v) (λ h.
     let at = place_in xs v h in
     eqb-false (get_or xs at.0 0) v (found at.0 0 (omega arith) at.1) at.2)
-
--- what is left of a list from a place on
-pub rest_from : (xs : List ℕ) (i : ℕ) → take (length xs - i) (drop i xs) ≡ drop i xs
-rest_from xs i = take_all (length xs - i) (drop i xs) (omega (arith, length-drop i xs))

@@ -1,16 +1,15 @@
 -- Without a bad part each link has a recipe of at most four monitor paths, so the monitors identify every link.
-use Rattle.std.proofs.Common.{ℕ, ◌+◌, ◌*◌, ◌<◌, ◌≡◌, Bool, true, false, ◌==◌, List, [], ◌∷◌, length, get_or, ℤ, All, slice_get, Some, IsTrue, refl, sym, ap, ap₂, ◌∙◌, arith, inl, inr, ext_get_or}
+use Rattle.std.proofs.Common.{ℕ, ◌<◌, ◌≡◌, Bool, true, false, ◌==◌, List, ◌∷◌, length, get_or, ℤ, All, slice_get, Some, IsTrue, sym, ◌∙◌, arith, inl, inr, ext_get_or}
 use Rattle.std.proofs.lemmas.Bool.{cases_Bool}
-use Rattle.std.proofs.lemmas.List.Elements.{All-tail}
 use Rattle.tomo_base.specs.declared.graph.Link.{Link}
 use Rattle.tomo_base.specs.Network.{Network, joins, linked, IsGraph}
 use Rattle.tomo_base.specs.Identify.{sum_along}
-use Rattle.tomo_base.specs.Recipes.{gain_of, loss_of, weighted}
+use Rattle.tomo_base.specs.Recipes.{gain_of, loss_of}
 use Rattle.tomo_base.specs.BadParts.{NoBadPart}
 use Rattle.tomo_base.proofs.Links.{joins_comm, linked_comm}
 use Rattle.tomo_base.proofs.Rows.{any_joins-from}
 use Rattle.ident_laws.specs.Laws.{NoBadPartIdentifies}
-use Rattle.ident_laws.proofs.Recipes.{recipe_sum}
+use Rattle.ident_laws.proofs.Recipes.{recipe_sum, same_weighted}
 use Rattle.cross_links.specs.CrossRecipe.{IsCrossRecipe}
 use Rattle.cross_links.specs.Joining.{one_term, three_terms, four_terms}
 use Rattle.cross_links.proofs.Tasks.{differ}
@@ -46,12 +45,6 @@ four_path_recipes g m i graph none lt =
     let l : Link = get_or g.links i d in
     let at = joins_own g.links i d lt in
     recipe_for g m graph none i l.a l.b (any_joins-from g.links i l.a l.b at) (only_joins g i l.a l.b graph at)
-
--- two numbers of paths that agree on each term have equal sums over the terms
-same_weighted : (w : ℤ → ℕ) (f h : List ℕ → ℕ) (terms : List (ℤ × List ℕ)) → All (λ t. f t.1 ≡ h t.1) terms → weighted w f terms ≡ weighted w h terms
-unfolding weighted
-same_weighted w f h [] same = refl
-same_weighted w f h (t ∷ ts) same = ap₂ ◌+◌ (ap (λ n. w t.0 * n) (same 0 t (omega arith))) (same_weighted w f h ts (All-tail (λ (t : ℤ × List ℕ). f t.1 ≡ h t.1) t ts same))
 
 -- so in every graph a set without a bad part identifies
 pub no_bad_part_identifies : (g : Network) → IsGraph g → NoBadPartIdentifies g

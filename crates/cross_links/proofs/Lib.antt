@@ -1,4 +1,3 @@
-pub mod Members
 pub mod Found
 pub mod Turned
 pub mod Growing

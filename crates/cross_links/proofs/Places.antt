@@ -8,11 +8,7 @@ use Rattle.tomo_base.specs.Network.{Network, joins, any_joins, AreLinks, IsGraph
 use Rattle.tomo_base.specs.Table.{JoinsAt}
 use Rattle.tomo_base.proofs.Links.{joins_gives, joins_comm}
 use Rattle.tomo_base.proofs.Entering.{joins_its_ends}
-
--- one link joins the ends of another exactly where the other joins its ends
-joins_turn : (x y : Link) → joins x y.a y.b ≡ joins y x.a x.b
-unfolding joins
-joins_turn x y = grind (arith, nat_tests)
+use Rattle.tomo_base.proofs.Rows.{joins-swap}
 
 -- where no link joins two nodes, the one at a place does not
 none_at : (ls : List Link) (k a b : ℕ) (x : Link) → any_joins ls a b ≡ false → slice_get ls k ≡ Some x → joins x a b ≡ false
@@ -43,7 +39,7 @@ at_place n (y ∷ ls) zero (suc k) l x w e f =
     ap (λ (v : Link). joins x v.a v.b) (sym same) ∙ none_at ls k y.a y.b x w.2 f ∙ sym (ne_eqb (suc k) 0 (λ q. absurd (omega (arith, q))))
 at_place n (y ∷ ls) (suc i) zero l x w e f =
     let here : y ≡ x = cc f in
-    ap (λ (u : Link). joins u l.a l.b) (sym here) ∙ joins_turn y l ∙ none_at ls i y.a y.b l w.2 e ∙ sym (ne_eqb 0 (suc i) (λ q. absurd (omega (arith, q))))
+    ap (λ (u : Link). joins u l.a l.b) (sym here) ∙ joins-swap y l ∙ none_at ls i y.a y.b l w.2 e ∙ sym (ne_eqb 0 (suc i) (λ q. absurd (omega (arith, q))))
 at_place n (y ∷ ls) (suc i) (suc k) l x w e f = at_place n ls i k l x w.3 e f ∙ further k i
 
 -- so the two nodes that the link at place i joins are joined by that one alone

@@ -10,28 +10,29 @@ use Rattle.tomo_base.specs.Walks.{end_of}
 use Rattle.tomo_base.specs.Identify.{IsMonitorPath}
 use Rattle.simple_path.specs.Pools.{nodes_in}
 use Rattle.unit_flow.specs.Flows.{Task, IsFlow, later_of, first_of, second_of, last_of}
-use Rattle.unit_flow.proofs.Loads.{last_at}
+use Rattle.unit_flow.proofs.Loads.{last_at, take_later}
 use Rattle.cross_links.specs.CrossRecipe.{IsCrossRecipe}
-use Rattle.cross_links.specs.Joining.{three_terms, four_terms, paths_of}
-use Rattle.cross_links.specs.Ways.{freely, beside, onto, ThreeWays, KeepsWay}
+use Rattle.cross_links.specs.Joining.{three_terms, four_terms, term_paths}
+use Rattle.cross_links.specs.Ways.{freely, beside, onto, ThreeWays, KeepsWay, IsPlainLink}
 use Rattle.cross_links.specs.Steps.{IsChoice, IsLedOn}
-use Rattle.cross_links.proofs.Members.{has_first, has_later, has_cases, has_end}
+use Rattle.tomo_base.proofs.Members.{has_first, has_later, has_cases}
+use Rattle.tomo_base.proofs.Paths.{has_end}
 use Rattle.cross_links.proofs.Ways.{leads_end, whole_at, end_at, way_at, ways_apart}
 use Rattle.cross_links.proofs.Arms.{two_arms, three_ways, goes_on, TwoArms, FourArms}
 use Rattle.cross_links.proofs.Tasks.{differ}
 use Rattle.cross_links.proofs.Cases.{place_of, from_two_flows}
 use Rattle.cross_links.proofs.Places.{only_joins}
 use Rattle.cross_links.proofs.Terms.{paths_three, by_three, paths_four, by_four}
-use Rattle.cross_links.proofs.Naming.{path_short, nodes_short, rest_is}
+use Rattle.cross_links.proofs.Naming.{path_short, nodes_short}
 
 -- monitor paths have few nodes
-room_of : (g : Network) (m : ℕ → Bool) (ts : List (ℤ × List ℕ)) → IsGraph g → All (λ t. IsMonitorPath g m t.1) ts → nodes_in (paths_of ts) ≤ length ts * g.nodes
+room_of : (g : Network) (m : ℕ → Bool) (ts : List (ℤ × List ℕ)) → IsGraph g → All (λ t. IsMonitorPath g m t.1) ts → nodes_in (term_paths ts) ≤ length ts * g.nodes
 room_of g m ts graph paths = nodes_short g.nodes ts (λ k d l. path_short g m (get_or ts k d).1 graph (paths k d l))
 
 -- terms are a recipe of the link between v and w, and their paths have at most so many nodes
 pub record MakesRecipe (g : Network) (m : ℕ → Bool) (v w k : ℕ) (terms : List (ℤ × List ℕ)) : Type 0 where
   pub recipe : (i : ℕ) → JoinsAt g.links i v w → IsCrossRecipe g m i terms
-  pub room : nodes_in (paths_of terms) ≤ k * g.nodes
+  pub room : nodes_in (term_paths terms) ≤ k * g.nodes
 
 -- ---- a link from v to the monitor w
 module _ (g : Network) (m : ℕ → Bool) (graph : IsGraph g) (v w : ℕ) (l : IsTrue (linked g v w)) (plain : m v ≡ false) (monitor : m w ≡ true)
@@ -76,6 +77,10 @@ pub record IsPlain (g : Network) (m : ℕ → Bool) (v w : ℕ) : Type 0 where
   pub linked : IsTrue (linked g v w)
   pub plain_v : m v ≡ false
   pub plain_w : m w ≡ false
+
+-- a link between two nodes that are no monitors, of those that code asks for
+pub plain_link : (g : Network) (m : List ℕ) (v w : ℕ) → IsPlainLink g m v w → has m w ≡ false → IsPlain g (has m) v w
+plain_link g m v w link other = record { graph = link.graph; linked = link.linked; plain_v = link.plain; plain_w = other }
 
 -- three paths from v, of which one goes over w
 pub record FirstFlow (g : Network) (m : ℕ → Bool) (v w : ℕ) (ps : List (List ℕ)) : Type 0 where
@@ -202,20 +207,20 @@ module _ (g : Network) (m : ℕ → Bool) (v w : ℕ) (link : IsPlain g m v w) (
 pub keeps_read : (g : Network) (m : ℕ → Bool) (v : ℕ) (p q r p' q' r' : List ℕ) → p' ≡ p → q' ≡ q → r' ≡ r → KeepsWay g m v (later_of p) (later_of q) (later_of r) →
     KeepsWay g m v (take (length p' - 1) (drop 1 p')) (take (length q' - 1) (drop 1 q')) (take (length r' - 1) (drop 1 r'))
 keeps_read g m v p q r p' q' r' ep eq er k =
-    subst (λ x. KeepsWay g m v x (take (length q' - 1) (drop 1 q')) (take (length r' - 1) (drop 1 r'))) (sym (rest_is p' ∙ ap later_of ep))
-    (subst (λ x. KeepsWay g m v (later_of p) x (take (length r' - 1) (drop 1 r'))) (sym (rest_is q' ∙ ap later_of eq))
-    (subst (λ x. KeepsWay g m v (later_of p) (later_of q) x) (sym (rest_is r' ∙ ap later_of er)) k))
+    subst (λ x. KeepsWay g m v x (take (length q' - 1) (drop 1 q')) (take (length r' - 1) (drop 1 r'))) (sym (take_later p' ∙ ap later_of ep))
+    (subst (λ x. KeepsWay g m v (later_of p) x (take (length r' - 1) (drop 1 r'))) (sym (take_later q' ∙ ap later_of eq))
+    (subst (λ x. KeepsWay g m v (later_of p) (later_of q) x) (sym (take_later r' ∙ ap later_of er)) k))
 
 -- the task of the second flow
 onto_read : (g : Network) (m : ℕ → Bool) (v w : ℕ) (p q r p' q' r' : List ℕ) → p' ≡ p → q' ≡ q → r' ≡ r → first_of (later_of p) ≡ w →
     onto g m (take (length q' - 1) (drop 1 q')) (take (length r' - 1) (drop 1 r')) (first_of (take (length p' - 1) (drop 1 p'))) v ≡ onto g m (later_of q) (later_of r) w v
 onto_read g m v w p q r p' q' r' ep eq er is =
-    ap₂ (λ x y. onto g m x y (first_of (take (length p' - 1) (drop 1 p'))) v) (rest_is q' ∙ ap later_of eq) (rest_is r' ∙ ap later_of er)
-    ∙ ap (λ x. onto g m (later_of q) (later_of r) x v) (ap first_of (rest_is p' ∙ ap later_of ep) ∙ is)
+    ap₂ (λ x y. onto g m x y (first_of (take (length p' - 1) (drop 1 p'))) v) (take_later q' ∙ ap later_of eq) (take_later r' ∙ ap later_of er)
+    ∙ ap (λ x. onto g m (later_of q) (later_of r) x v) (ap first_of (take_later p' ∙ ap later_of ep) ∙ is)
 
 -- the end of the way that is kept
 end_read : (w : ℕ) (p p' : List ℕ) → p' ≡ p → later_of p ≡ w ∷ later_of (later_of p) → last_of (take (length p' - 1) (drop 1 p')) ≡ end_of w (later_of (later_of p))
-end_read w p p' e is = ap last_of (rest_is p' ∙ (ap later_of e ∙ is))
+end_read w p p' e is = ap last_of (take_later p' ∙ (ap later_of e ∙ is))
 
 -- the second flow, after the first
 pub second_read : (g : Network) (m : ℕ → Bool) (v w : ℕ) → IsPlain g m v w → (ps : List (List ℕ)) → FirstFlow g m v w ps → (i : ℕ) → i < length ps → has (get_or ps i []) w ≡ true →
@@ -239,7 +244,7 @@ choice_read v x y b c b' c' near far eb ec ex h = subst (λ z. IsChoice (v ∷ b
 
 -- a way that was led on
 led_read : (way way' near whole : List ℕ) → way' ≡ way → IsLedOn way' (take (length near - 1) (drop 1 near)) whole → IsLedOn way (later_of near) whole
-led_read way way' near whole e h = subst (λ z. IsLedOn z (later_of near) whole) e (subst (λ z. IsLedOn way' z whole) (rest_is near) h)
+led_read way way' near whole e h = subst (λ z. IsLedOn z (later_of near) whole) e (subst (λ z. IsLedOn way' z whole) (take_later near) h)
 
 -- the terms of the four paths, as they are read: b and c are two paths from v, third is the path of the second flow that ends at the end of w a, and way is the other
 pub makes_read : (g : Network) (m : ℕ → Bool) (v w : ℕ) → IsPlain g m v w → (a b c : List ℕ) (qs : List (List ℕ)) → SecondFlow g m v w a b c qs → (j : ℕ) → j < length qs →

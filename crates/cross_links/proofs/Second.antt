@@ -6,13 +6,14 @@ use Rattle.tomo_base.specs.Sets.{has, union}
 use Rattle.tomo_base.specs.BadParts.{NoBadPart}
 use Rattle.tomo_base.proofs.Links.{linked_below}
 use Rattle.tomo_base.proofs.Ascending.{All-has, All-from_has}
-use Rattle.unit_flow.specs.Flows.{Task, Routing, task_of, LeadsFrom, first_of, later_of, IsFlow}
+use Rattle.unit_flow.specs.Flows.{Task, Routing, LeadsFrom, first_of, later_of, IsFlow, routing_task}
 use Rattle.cross_links.specs.Ways.{freely, beside, onto, IsWay, KeepsWay, with_lists}
 use Rattle.cross_links.specs.Steps.{CanGrow}
-use Rattle.cross_links.proofs.Members.{has_none, has_cases}
+use Rattle.tomo_base.proofs.Members.{has_none, has_cases}
 use Rattle.cross_links.proofs.Ways.{one_way}
 use Rattle.cross_links.proofs.Arms.{onto_ok, kept_way}
-use Rattle.cross_links.proofs.Tasks.{same_tests, differ, onto_inside, beside_grows, Grown}
+use Rattle.cross_links.proofs.Tasks.{differ, onto_inside, beside_grows, Grown}
+use Rattle.std.proofs.Math.Path.{fun_ext}
 
 -- the nodes of a way after its first are nodes
 leads_below : (t : Task) (x : ℕ) (a : List ℕ) → IsGraph t.graph → LeadsFrom t x a → (z : ℕ) → has a z ≡ true → z < t.graph.nodes
@@ -57,7 +58,7 @@ module _ (g : Network) (m : ℕ → Bool) (v : ℕ) (kept b c : List ℕ) (graph
 
     -- the task of the flow
     pub second_task : beside g (has targets) (get_or kept 0 0) v ≡ onto g m b c (first_of kept) v
-    second_task = ap₂ (λ (q : ℕ → Bool) (x : ℕ). beside g q x v) (same_tests (has targets) (with_lists m b c) ends) (first_read kept k.some)
+    second_task = ap₂ (λ (q : ℕ → Bool) (x : ℕ). beside g q x v) (fun_ext {f = has targets} {g = with_lists m b c} ends) (first_read kept k.some)
 
     -- its source is no target
     pub second_no_target : has targets (get_or kept 0 0) ≡ false
@@ -73,7 +74,7 @@ module _ (g : Network) (m : ℕ → Bool) (v : ℕ) (kept b c : List ℕ) (graph
       (one_way (onto g m b c (first_of kept) v) (later_of kept) (kept_way g m v (first_of kept) (later_of kept) b c v_w k.ways))
 
   -- and no set stops it while it is the only one
-  pub second_grows : NoBadPart g m → (f : Routing) → Grown (onto g m b c (first_of kept) v) 1 f → CanGrow (task_of f) f.paths
+  pub second_grows : NoBadPart g m → (f : Routing) → Grown (onto g m b c (first_of kept) v) 1 f → CanGrow (routing_task f) f.paths
   second_grows none f grown =
       let both = linked_below g.nodes g.links v (first_of kept) graph k.linked in
       let ok = onto_ok g m v (first_of kept) (later_of kept) b c (differ g graph v (first_of kept) k.linked) k.ways graph both.1 k.plain in

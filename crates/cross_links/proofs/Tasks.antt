@@ -10,34 +10,31 @@ use Rattle.tomo_base.specs.BadParts.{NoBadPart}
 use Rattle.tomo_base.proofs.Counts.{count-one, count-none}
 use Rattle.tomo_base.proofs.Links.{linked_below}
 use Rattle.tomo_base.proofs.Ascending.{All-from_has}
-use Rattle.unit_flow.specs.Flows.{Task, Routing, IsTask, IsFlow, IsRoute, task_of, no_paths}
+use Rattle.unit_flow.specs.Flows.{Task, Routing, IsTask, IsFlow, IsRoute, no_paths, routing_task}
 use Rattle.unit_flow.specs.Order.{AreInOrder}
 use Rattle.unit_flow.proofs.Links.{links_differ}
 use Rattle.cross_links.specs.Ways.{freely, beside, with_lists}
 use Rattle.cross_links.specs.Steps.{Begins, CanGrow, HasGrown}
-use Rattle.cross_links.proofs.Members.{has_none, has_first, has_cases, has_not}
+use Rattle.tomo_base.proofs.Members.{has_none, has_first, has_cases, has_not}
 use Rattle.cross_links.proofs.Growing.{never_stops}
+use Rattle.std.proofs.Math.Path.{fun_ext}
 
 -- the set of one node, as a set that it was put into
 single : (x z : ℕ) (s : List ℕ) → has s z ≡ ((x == z) || has [] z) → has s z ≡ has (x ∷ []) z
 unfolding has
 single x z s h = h
 
--- tests that agree at each number are equal
-pub same_tests : (p q : ℕ → Bool) → ((v : ℕ) → p v ≡ q v) → p ≡ q
-same_tests p q h = λ i. λ v. h v i
-
 -- the flow that bans one node
 pub begins_beside : (g : Network) (targets banned : List ℕ) (s x : ℕ) (f : Routing) → f ≡ no_paths g s targets banned → ((z : ℕ) → has banned z ≡ ((x == z) || has [] z)) → Begins (beside g (has targets) s x) f
 begins_beside g targets banned s x f is one = record {
-  task = ap task_of is ∙ ap (λ (q : ℕ → Bool). record { graph = g; source = s; targets = has targets; banned = q }) (same_tests (has banned) (has (x ∷ [])) (λ z. single x z banned (one z)));
+  task = ap routing_task is ∙ ap (λ (q : ℕ → Bool). record { graph = g; source = s; targets = has targets; banned = q }) (fun_ext {f = has banned} {g = has (x ∷ [])} (λ z. single x z banned (one z)));
   bare = ap (λ (r : Routing). r.paths) is;
 }
 
 -- the flow that bans none
 pub begins_freely : (g : Network) (targets banned : List ℕ) (s : ℕ) (f : Routing) → f ≡ no_paths g s targets banned → banned ≡ [] → Begins (freely g (has targets) s) f
 begins_freely g targets banned s f is bare = record {
-  task = ap task_of is ∙ ap (λ (b : List ℕ). task_of (no_paths g s targets b)) bare;
+  task = ap routing_task is ∙ ap (λ (b : List ℕ). routing_task (no_paths g s targets b)) bare;
   bare = ap (λ (r : Routing). r.paths) is;
 }
 
@@ -95,7 +92,7 @@ onto_covered g m b c v z k h = or_left (with_lists m b c z) (has (v ∷ []) z) (
 
 -- a flow of the task with so many paths
 pub record Grown (t : Task) (k : ℕ) (f : Routing) : Type 0 where
-  pub task : task_of f ≡ t
+  pub task : routing_task f ≡ t
   pub many : length f.paths ≡ k
 
 -- at first none
@@ -107,8 +104,8 @@ pub grown_more : (t : Task) (k : ℕ) (old new : Routing) → Grown t k old → 
 grown_more t k old new g h = record { task = h.task ∙ g.task; many = h.wider.one_more ∙ ap (λ n. n + 1) g.many }
 
 -- a path that is kept counts 1
-pub grown_kept : (t : Task) (old new : Routing) (p : List ℕ) → task_of old ≡ t → new ≡ record old { paths = p ∷ [] } → Grown t 1 new
-grown_kept t old new p same is = record { task = ap task_of is ∙ same; many = ap (λ (f : Routing). length f.paths) is }
+pub grown_kept : (t : Task) (old new : Routing) (p : List ℕ) → routing_task old ≡ t → new ≡ record old { paths = p ∷ [] } → Grown t 1 new
+grown_kept t old new p same is = record { task = ap routing_task is ∙ same; many = ap (λ (f : Routing). length f.paths) is }
 
 -- paths in another order are as many
 pub order_many : (paths sorted : List (List ℕ)) → AreInOrder paths sorted → length sorted ≡ length paths
@@ -126,13 +123,13 @@ order_has f paths sorted x o h = has_some f sorted x ∙ (sym (list_any-IsPermut
 
 module _ (g : Network) (m : ℕ → Bool) (none : NoBadPart g m) where
   -- no set stops a flow beside one node that has at most one path
-  pub beside_grows : (targets : ℕ → Bool) (s x k : ℕ) (f : Routing) → IsTask (beside g targets s x) → x < g.nodes → IsInside g m targets → k ≤ 1 → Grown (beside g targets s x) k f → CanGrow (task_of f) f.paths
+  pub beside_grows : (targets : ℕ → Bool) (s x k : ℕ) (f : Routing) → IsTask (beside g targets s x) → x < g.nodes → IsInside g m targets → k ≤ 1 → Grown (beside g targets s x) k f → CanGrow (routing_task f) f.paths
   beside_grows targets s x k f ok below cover few grown =
       subst (λ t. CanGrow t f.paths) (sym grown.task) (λ q cut. never_stops (beside g targets s x) m ok none
       (λ z l h. or_left (targets z) (has (x ∷ []) z) (cover z l h)) (length f.paths) q (omega (arith, few, grown.many, size_single g x below)) cut)
 
   -- nor a flow over any nodes that has at most two
-  pub freely_grows : (s k : ℕ) (f : Routing) → IsTask (freely g m s) → k ≤ 2 → Grown (freely g m s) k f → CanGrow (task_of f) f.paths
+  pub freely_grows : (s k : ℕ) (f : Routing) → IsTask (freely g m s) → k ≤ 2 → Grown (freely g m s) k f → CanGrow (routing_task f) f.paths
   freely_grows s k f ok few grown =
       subst (λ t. CanGrow t f.paths) (sym grown.task) (λ q cut. never_stops (freely g m s) m ok none
       (λ z l h. or_left (m z) (has [] z) h) (length f.paths) q (omega (arith, few, grown.many, size_none g)) cut)

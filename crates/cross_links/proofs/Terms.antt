@@ -13,7 +13,8 @@ use Rattle.tomo_base.proofs.Links.{joins_comm, linked_comm}
 use Rattle.cross_links.specs.CrossRecipe.{IsCrossCoefficient, Differ, IsCrossRecipe}
 use Rattle.cross_links.specs.Joining.{turned_onto, one_term, three_terms, four_terms}
 use Rattle.cross_links.proofs.Arms.{TwoArms, FourArms}
-use Rattle.cross_links.proofs.Members.{off_rest, has_none, has_first, has_later, has_cases, has_not, has_end, not_first}
+use Rattle.tomo_base.proofs.Members.{off_rest, has_none, has_first, has_later, has_cases, has_not}
+use Rattle.tomo_base.proofs.Paths.{has_end, not_first}
 use Rattle.cross_links.proofs.Turned.{sum_across, sum_through, turned_left, turned_right, turned_neither, across, through, IsArm}
 
 -- the ones of a link, as a weight

@@ -8,7 +8,8 @@ use Rattle.tomo_base.specs.Walks.{StepsFrom, IsWalk, EndsIn, NoneTwice, end_of}
 use Rattle.tomo_base.specs.Identify.{sum_from, sum_over, IsMonitorPath}
 use Rattle.tomo_base.proofs.Links.{linked_comm}
 use Rattle.cross_links.specs.Joining.{turned_onto}
-use Rattle.cross_links.proofs.Members.{has_first, has_later, has_cases, not_first}
+use Rattle.tomo_base.proofs.Members.{has_first, has_later, has_cases}
+use Rattle.tomo_base.proofs.Paths.{not_first}
 
 -- it is the reverse of the first, and the second
 pub turned_is : (a b : List ℕ) → reverse a ++ b ≡ turned_onto a b

@@ -7,7 +7,8 @@ use Rattle.tomo_base.specs.Network.{linked}
 use Rattle.tomo_base.specs.Sets.{has, Apart}
 use Rattle.tomo_base.specs.Walks.{StepsFrom, NoneTwice, end_of}
 use Rattle.unit_flow.specs.Flows.{Task, LeadsFrom, IsRoute, later_of, all_later, last_of, IsFlow}
-use Rattle.cross_links.proofs.Members.{has_first, has_later, has_cases, append_left, append_right, once_left, once_right, once_apart}
+use Rattle.tomo_base.proofs.Members.{has_first, has_later, has_cases, append_left, append_right}
+use Rattle.tomo_base.proofs.Paths.{once_left, once_right, once_apart}
 use Rattle.cross_links.specs.Ways.{IsWay}
 use Rattle.cross_links.proofs.Turned.{IsArm}
 

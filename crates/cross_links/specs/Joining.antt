@@ -21,19 +21,19 @@ abbrev pub four_terms : List ℕ → List ℕ → List ℕ → List ℕ → List
 four_terms a b c d = (pos 1, turned_onto c a) ∷ (pos 1, turned_onto b d) ∷ (negsuc 0, turned_onto (later_of a) b) ∷ (negsuc 0, turned_onto (later_of c) d) ∷ []
 
 -- the paths of terms
-abbrev pub paths_of : List (ℤ × List ℕ) → List (List ℕ)
-paths_of terms = map (λ t. t.1) terms
+abbrev pub term_paths : List (ℤ × List ℕ) → List (List ℕ)
+term_paths terms = map (λ t. t.1) terms
 
 -- the term that counts the path with the number k so often
 abbrev pub term : ℤ → ℕ → Term
 term c k = record { coef = c; path = k }
 
 -- terms with these coefficients that name the paths with the numbers k, k + 1, ..
-abbrev pub numbered : ℕ → List (ℤ × List ℕ) → List Term
-numbered k [] = []
-numbered k (t ∷ ts) = term t.0 k ∷ numbered (k + 1) ts
+abbrev pub numbered_terms : ℕ → List (ℤ × List ℕ) → List Term
+numbered_terms k [] = []
+numbered_terms k (t ∷ ts) = term t.0 k ∷ numbered_terms (k + 1) ts
 
 -- the paths of the wanted terms were added to the pool, and the terms name them in this order
 pub record Names (old new : List (List ℕ)) (terms : List Term) (wanted : List (ℤ × List ℕ)) : Type 0 where
-  pub grown : new ≡ old ++ paths_of wanted
-  pub named : terms ≡ numbered (length old) wanted
+  pub grown : new ≡ old ++ term_paths wanted
+  pub named : terms ≡ numbered_terms (length old) wanted

@@ -1,11 +1,11 @@
 -- What the functions that make a recipe say of flows, of ways and of pools.
 use Rattle.std.specs.Prelude.{ℕ, ◌≡◌, ◌⊎◌, Bool, true, false, List, [], ◌∷◌, ◌++◌, length}
 use Rattle.tomo_base.specs.Sets.{has}
-use Rattle.unit_flow.specs.Flows.{Task, Routing, task_of, last_of, IsCut, IsWider}
+use Rattle.unit_flow.specs.Flows.{Task, Routing, last_of, IsCut, IsWider, routing_task}
 
 -- a flow of the task, without paths
 pub record Begins (t : Task) (f : Routing) : Type 0 where
-  pub task : task_of f ≡ t
+  pub task : routing_task f ≡ t
   pub bare : f.paths ≡ []
 
 -- no set stops the flow with as many ways out as it has paths
@@ -14,8 +14,8 @@ CanGrow t paths = (q : ℕ → Bool) → IsCut t (length paths) q → ⊥
 
 -- a flow of the same task with one path more
 pub record HasGrown (old new : Routing) : Type 0 where
-  pub task : task_of new ≡ task_of old
-  pub wider : IsWider (task_of old) old.paths new.paths
+  pub task : routing_task new ≡ routing_task old
+  pub wider : IsWider (routing_task old) old.paths new.paths
 
 -- the way ends off the path and is left as it is, or it ends on the path and is led on along it
 abbrev pub IsLedOn : List ℕ → List ℕ → List ℕ → Type 0

@@ -1,8 +1,9 @@
 -- The flows from the ends of a link to monitors, and the ways that they give.
-use Rattle.std.specs.Prelude.{ℕ, ◌≡◌, ◌≤◌, Bool, false, List, [], ◌∷◌, length, IsTrue}
-use Rattle.tomo_base.specs.Network.{Network, linked}
+use Rattle.std.specs.Prelude.{ℕ, ◌≡◌, ◌≤◌, ◌<◌, Bool, false, List, [], ◌∷◌, length, All, IsTrue}
+use Rattle.tomo_base.specs.Network.{Network, linked, IsGraph}
 use Rattle.tomo_base.specs.Sets.{has, union, Apart}
 use Rattle.tomo_base.specs.Walks.{NoneTwice}
+use Rattle.tomo_base.specs.BadParts.{NoBadPart}
 use Rattle.unit_flow.specs.Flows.{Task, LeadsFrom, first_of, later_of}
 
 -- from x to the nodes of m, over any nodes
@@ -20,6 +21,14 @@ with_lists m b c = union (union m (has b)) (has c)
 -- from x to the nodes of m and those of two lists, and not over y
 abbrev pub onto : Network → (ℕ → Bool) → List ℕ → List ℕ → ℕ → ℕ → Task
 onto g m b c x y = beside g (with_lists m b c) x y
+
+-- a link from v, which is no monitor, to w, where the monitors leave no bad part
+pub record IsPlainLink (g : Network) (m : List ℕ) (v w : ℕ) : Type 0 where
+  pub graph : IsGraph g
+  pub linked : IsTrue (linked g v w)
+  pub plain : has m v ≡ false
+  pub none : NoBadPart g (has m)
+  pub nodes : All (λ u. u < g.nodes) m
 
 -- a way of a task over different nodes, by its nodes after the source
 pub record IsWay (t : Task) (a : List ℕ) : Type 0 where

@@ -1,7 +1,7 @@
 // Paths joined of two, as terms.
 ghost use Rattle.std.specs.Prelude.{◌≡◌, ◌<◌, ◌≤◌, ◌+◌, ◌^◌, ◌++◌, [], ◌∷◌, length, IfOk, OnOk, OnErr};
 ghost use Rattle.simple_path.specs.Pools.{nodes_in};
-ghost use Rattle.cross_links.specs.Joining.{turned_onto, term, one_term, three_terms, four_terms, paths_of, Names};
+ghost use Rattle.cross_links.specs.Joining.{turned_onto, term, one_term, three_terms, four_terms, Names, term_paths};
 ghost use Rattle.cross_links.specs.Steps.{Longer};
 
 use simple_path::{PathPool, Recipe, Term};
@@ -61,7 +61,7 @@ pub fn three_paths(
 ) -> Result<Recipe, NoMemory>
     requires first { 1 ≤ length a.now }
     requires few { length pool.old + 3 < 2 ^ 31 }
-    requires room { nodes_in pool.old + nodes_in (paths_of (three_terms w a.now b.now)) < 2 ^ 31 }
+    requires room { nodes_in pool.old + nodes_in (term_paths (three_terms w a.now b.now)) < 2 ^ 31 }
     ensures ok { IfOk result (λ r. Names pool.old pool.new r (three_terms w a.now b.now)) }
     ensures err { OnErr result (Longer pool.old pool.new) }
 {
@@ -84,7 +84,7 @@ pub fn four_paths(
     requires first { 1 ≤ length a.now }
     requires third { 1 ≤ length c.now }
     requires few { length pool.old + 4 < 2 ^ 31 }
-    requires room { nodes_in pool.old + nodes_in (paths_of (four_terms a.now b.now c.now d.now)) < 2 ^ 31 }
+    requires room { nodes_in pool.old + nodes_in (term_paths (four_terms a.now b.now c.now d.now)) < 2 ^ 31 }
     ensures ok { IfOk result (λ r. Names pool.old pool.new r (four_terms a.now b.now c.now d.now)) }
     ensures err { OnErr result (Longer pool.old pool.new) }
 {

@@ -8,6 +8,7 @@ ghost use Rattle.tomo_base.specs.BadParts.{NoBadPart};
 ghost use Rattle.simple_path.specs.Pools.{nodes_in};
 ghost use Rattle.cross_links.specs.CrossRecipe.{AddsRecipe, AddsRecipeBetween};
 ghost use Rattle.cross_links.specs.Steps.{Longer};
+ghost use Rattle.cross_links.specs.Ways.{IsPlainLink};
 
 use crate::adding::{four_paths, one_path, three_paths};
 use crate::flows::{second_ways, three_ways, two_ways};
@@ -25,12 +26,8 @@ fn to_monitor(
     w: u32,
     pool: &mut PathPool,
 ) -> Result<Recipe, NoMemory>
-    requires graph { IsGraph g.now }
-    requires linked { IsTrue (linked g.now v w) }
-    requires plain { has m.now v ≡ false }
+    requires link { IsPlainLink g.now m.now v w }
     requires monitor { IsTrue (has m.now w) }
-    requires none { NoBadPart g.now (has m.now) }
-    requires nodes { All (λ u. u < g.now.nodes) m.now }
     requires few { length pool.old + 3 < 2 ^ 31 }
     requires room { nodes_in pool.old + 3 * g.now.nodes < 2 ^ 31 }
     ensures ok { IfOk result (AddsRecipeBetween g.now (has m.now) v w pool.old pool.new) }
@@ -50,12 +47,8 @@ fn between_others(
     w: u32,
     pool: &mut PathPool,
 ) -> Result<Recipe, NoMemory>
-    requires graph { IsGraph g.now }
-    requires linked { IsTrue (linked g.now v w) }
-    requires plain { has m.now v ≡ false }
+    requires link { IsPlainLink g.now m.now v w }
     requires plain_neighbour { has m.now w ≡ false }
-    requires none { NoBadPart g.now (has m.now) }
-    requires nodes { All (λ u. u < g.now.nodes) m.now }
     requires few { length pool.old + 4 < 2 ^ 31 }
     requires room { nodes_in pool.old + 4 * g.now.nodes < 2 ^ 31 }
     ensures ok { IfOk result (AddsRecipeBetween g.now (has m.now) v w pool.old pool.new) }

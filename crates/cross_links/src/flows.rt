@@ -4,7 +4,7 @@ ghost use Rattle.tomo_base.specs.Network.{linked, IsGraph};
 ghost use Rattle.tomo_base.specs.Sets.{has};
 ghost use Rattle.tomo_base.specs.BadParts.{NoBadPart};
 ghost use Rattle.unit_flow.specs.Flows.{IsFlow, first_of, second_of, last_of};
-ghost use Rattle.cross_links.specs.Ways.{freely, beside, onto, KeepsWay};
+ghost use Rattle.cross_links.specs.Ways.{freely, beside, onto, IsPlainLink, KeepsWay};
 
 use crate::growth::{flow_beside, grow};
 use crate::meeting::ends_on;
@@ -15,11 +15,7 @@ use unit_flow::Flow;
 
 /// Two ways from a node to different monitors that share only the node and avoid a neighbour.
 pub fn two_ways(alloc: Global, g: &Graph, m: &NodeSet, v: u32, w: u32) -> Result<PathPool, NoMemory>
-    requires graph { IsGraph g.now }
-    requires linked { IsTrue (linked g.now v w) }
-    requires plain { has m.now v ≡ false }
-    requires none { NoBadPart g.now (has m.now) }
-    requires nodes { All (λ u. u < g.now.nodes) m.now }
+    requires link { IsPlainLink g.now m.now v w }
     ensures flow { IfOk result (IsFlow (beside g.now (has m.now) v w)) }
     ensures two { IfOk result (λ p. length p ≡ 2) }
 {
@@ -31,12 +27,8 @@ pub fn two_ways(alloc: Global, g: &Graph, m: &NodeSet, v: u32, w: u32) -> Result
 
 // A way from v over its neighbour w to a monitor.
 fn way_over(alloc: Global, g: &Graph, m: &NodeSet, v: u32, w: u32) -> Result<Vec<u32>, NoMemory>
-    requires graph { IsGraph g.now }
-    requires linked { IsTrue (linked g.now v w) }
-    requires plain { has m.now v ≡ false }
+    requires link { IsPlainLink g.now m.now v w }
     requires plain_neighbour { has m.now w ≡ false }
-    requires none { NoBadPart g.now (has m.now) }
-    requires nodes { All (λ u. u < g.now.nodes) m.now }
     ensures flow { IfOk result (λ p. IsFlow (freely g.now (has m.now) v) (p.items ∷ [])) }
     ensures over { IfOk result (λ p. second_of p.items ≡ w) }
 {
@@ -56,12 +48,8 @@ pub fn three_ways(
     v: u32,
     w: u32,
 ) -> Result<PathPool, NoMemory>
-    requires graph { IsGraph g.now }
-    requires linked { IsTrue (linked g.now v w) }
-    requires plain { has m.now v ≡ false }
+    requires link { IsPlainLink g.now m.now v w }
     requires plain_neighbour { has m.now w ≡ false }
-    requires none { NoBadPart g.now (has m.now) }
-    requires nodes { All (λ u. u < g.now.nodes) m.now }
     ensures flow { IfOk result (IsFlow (freely g.now (has m.now) v)) }
     ensures three { IfOk result (λ p. length p ≡ 3) }
     ensures over { IfOk result (λ p. IsTrue (has (map second_of p) w)) }

@@ -1,7 +1,7 @@
 // Flows that no set stops.
 ghost use Rattle.std.specs.Prelude.{◌≡◌, ◌<◌, All, IfOk, OnOk, false};
 ghost use Rattle.tomo_base.specs.Sets.{has};
-ghost use Rattle.unit_flow.specs.Flows.{task_of};
+ghost use Rattle.unit_flow.specs.Flows.{routing_task};
 ghost use Rattle.cross_links.specs.Ways.{beside};
 ghost use Rattle.cross_links.specs.Steps.{Begins, CanGrow, HasGrown};
 
@@ -33,7 +33,7 @@ pub fn flow_beside(
 /// Makes one path more of a flow that no set stops.
 pub fn grow(alloc: Global, g: &Graph, flow: &mut Flow) -> Result<(), NoMemory>
     requires graph { flow.old.graph ≡ g.now }
-    requires grows { CanGrow (task_of flow.old) flow.old.paths }
+    requires grows { CanGrow (routing_task flow.old) flow.old.paths }
     ensures { OnOk result (HasGrown flow.old flow.new) }
 {
     match flow.widen(alloc, g)? {

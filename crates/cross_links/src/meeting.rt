@@ -1,8 +1,8 @@
 // Ways and the nodes at which they meet.
 ghost use Rattle.std.specs.Prelude.{◌≡◌, ◌<◌, ◌≤◌, ℕ, [], length, All, IfOk, IsTrue, false, slice_index_or};
 ghost use Rattle.std.specs.List.{list_any};
+ghost use Rattle.tomo_base.specs.Limits.{graph_node_limit};
 ghost use Rattle.tomo_base.specs.Sets.{has};
-ghost use Rattle.tomo_base.specs.NodeLists.{node_limit};
 ghost use Rattle.cross_links.specs.Ways.{with_lists};
 ghost use Rattle.cross_links.specs.Steps.{IsLedOn, IsChoice};
 
@@ -19,7 +19,7 @@ pub fn ends_on(
     b: &[u32],
     c: &[u32],
 ) -> Result<NodeSet, NoMemory>
-    requires few { count ≤ node_limit }
+    requires few { count ≤ graph_node_limit }
     requires set { All (λ v. v < count) m.now }
     requires first { All (λ v. v < count) b.now }
     requires second { All (λ v. v < count) c.now }

@@ -4,7 +4,7 @@ use Rattle.std.proofs.lemmas.List.{length_push}
 use Rattle.std.proofs.lemmas.List.Elements.{All-nil, All-push}
 use Rattle.tomo_base.specs.Network.{Network}
 use Rattle.tomo_base.specs.Identify.{IsAssignment}
-use Rattle.drill.specs.Draws.{draw, state, draws}
+use Rattle.drill.specs.Draws.{draw, state, draws, drawn_delay_limit}
 use Rattle.drill.proofs.Growth.{draw_below}
 
 -- one draw more
@@ -27,8 +27,8 @@ draws_below seed k zero some = All-nil (λ x. x < k)
 draws_below seed k (suc i) some = All-push (λ x. x < k) (draws seed k i) (draw k (state seed i)) (draws_below seed k i some) (draw_below k (state seed i) some)
 
 -- so a million as the bound gives each link a delay
-pub drawn_assignment : (g : Network) (seed l : ℕ) (delays : List ℕ) → length g.links ≡ l → delays ≡ draws seed 1000000 l → IsAssignment g delays
+pub drawn_assignment : (g : Network) (seed l : ℕ) (delays : List ℕ) → length g.links ≡ l → delays ≡ draws seed drawn_delay_limit l → IsAssignment g delays
 drawn_assignment g seed l delays count is = record {
-  one_each = ap (λ xs. length xs) is ∙ (length-draws seed 1000000 l ∙ sym count);
-  in_range = rw is (λ i d lt. omega (arith, draws_below seed 1000000 l (omega arith) i d lt));
+  one_each = ap (λ xs. length xs) is ∙ (length-draws seed drawn_delay_limit l ∙ sym count);
+  in_range = rw is (λ i d lt. omega (arith, draws_below seed drawn_delay_limit l (omega arith) i d lt));
 }

@@ -11,11 +11,11 @@ use Rattle.tomo_base.specs.Walks.{Reaches, IsConnected, everything}
 use Rattle.tomo_base.proofs.Entering.{joins_its_ends}
 use Rattle.tomo_base.proofs.Links.{linked_below}
 use Rattle.tomo_base.proofs.Rows.{any_joins-push, AreLinks-push}
-use Rattle.tomo_base.proofs.Searching.{connected_from}
+use Rattle.tomo_base.proofs.Reached.{connected_from}
 use Rattle.tomo_base.proofs.Walks.{Reaches-step}
 use Rattle.tomo_base.proofs.Graphs.{AreLinks-more}
 use Rattle.drill.specs.Draws.{next, step, draw, state}
-use Rattle.drill.specs.Generated.{pair, IsPair, pairs, pair_count, is_free, first_free, next_link, links_of, generated}
+use Rattle.drill.specs.Generated.{pair, IsPair, pairs, pair_count, is_free, first_free, next_link, generated, drawn_links}
 use Rattle.drill.proofs.PairLists.{pairs_are, length-pairs}
 use Rattle.drill.proofs.Hits.{found_free, some_free}
 
@@ -73,21 +73,21 @@ next_is n k x links some room are = elim (cases_lt (k + 1) n) [
 ]
 
 -- one link more
-pub links_more : (seed n k : ℕ) (p : Link) → next_link n k (state seed k) (links_of seed n k) ≡ Some p → links_of seed n (suc k) ≡ links_of seed n k ++ p ∷ []
-unfolding links_of
-links_more seed n k p is = ap (λ o. links_of seed n k ++ cons_option o []) is
+pub links_more : (seed n k : ℕ) (p : Link) → next_link n k (state seed k) (drawn_links seed n k) ≡ Some p → drawn_links seed n (suc k) ≡ drawn_links seed n k ++ p ∷ []
+unfolding drawn_links
+links_more seed n k p is = ap (λ o. drawn_links seed n k ++ cons_option o []) is
 
 -- the first k links are drawn as said
-pub links_are : (seed n k : ℕ) → 3 ≤ n → k ≤ pair_count n → AreDrawn n k (links_of seed n k)
-unfolding links_of
+pub links_are : (seed n k : ℕ) → 3 ≤ n → k ≤ pair_count n → AreDrawn n k (drawn_links seed n k)
+unfolding drawn_links
 links_are seed n zero some room = record { graph = tt; count = refl; low = λ _. tt }
 links_are seed n (suc k) some room =
     let before = links_are seed n k some (omega (arith, room)) in
-    let next = next_is n k (state seed k) (links_of seed n k) some (omega (arith, room)) before in
+    let next = next_is n k (state seed k) (drawn_links seed n k) some (omega (arith, room)) before in
     rw (links_more seed n k next.link next.is) (record {
-      graph = AreLinks-push n (links_of seed n k) next.link before.graph next.fits.0 next.fits.1 next.free;
-      count = length_push (links_of seed n k) next.link ∙ omega (arith, before.count);
-      low = λ lt. AreLinks-push (suc k + 1) (links_of seed n k) next.link (AreLinks-more (k + 1) (suc k + 1) (links_of seed n k) (omega arith) (before.low (omega (arith, lt)))) next.fits.0 (omega (arith, next.low (omega (arith, lt)))) next.free;
+      graph = AreLinks-push n (drawn_links seed n k) next.link before.graph next.fits.0 next.fits.1 next.free;
+      count = length_push (drawn_links seed n k) next.link ∙ omega (arith, before.count);
+      low = λ lt. AreLinks-push (suc k + 1) (drawn_links seed n k) next.link (AreLinks-more (k + 1) (suc k + 1) (drawn_links seed n k) (omega arith) (before.low (omega (arith, lt)))) next.fits.0 (omega (arith, next.low (omega (arith, lt)))) next.free;
     })
 
 -- what is found from a drawn place on is link k, where it joins a free pair
@@ -107,8 +107,8 @@ pub record IsGrown (seed n k : ℕ) (g : Network) (l : Link) : Type 0 where
 -- there is one
 pub grown : (seed n k x : ℕ) (g : Network) (o : Option Link) → 3 ≤ n → k < pair_count n → x ≡ state seed k → g ≡ generated seed n k → o ≡ next_link n k x g.links → (l : Link) × (o ≡ Some l) × IsGrown seed n k g l
 grown seed n k x g o some room at is next =
-    let links : g.links ≡ links_of seed n k = ap (λ (h : Network). h.links) is in
-    let found = next_is n k (state seed k) (links_of seed n k) some room (links_are seed n k some (omega (arith, room))) in
+    let links : g.links ≡ drawn_links seed n k = ap (λ (h : Network). h.links) is in
+    let found = next_is n k (state seed k) (drawn_links seed n k) some room (links_are seed n k some (omega (arith, room))) in
     let suc_k : suc k ≡ k + 1 = omega arith in (
       found.link,
       next ∙ (ap₂ (λ y ls. next_link n k y ls) at links ∙ found.is),
@@ -162,19 +162,19 @@ joined_before (l ∷ ls) ms a b e = elim (or_cases (joins l a b) (any_joins ls a
   | inr later ↦ or_right (joins l a b) (any_joins (ls ++ ms) a b) (joined_before ls ms a b later)
 ]
 
-joined_still : (seed n k m a b : ℕ) → k ≤ m → any_joins (links_of seed n k) a b ≡ true → any_joins (links_of seed n m) a b ≡ true
-unfolding links_of
-joined_still seed n k zero a b le e = let none : k ≡ zero = omega (arith, le) in subst (λ j. any_joins (links_of seed n j) a b ≡ true) none e
+joined_still : (seed n k m a b : ℕ) → k ≤ m → any_joins (drawn_links seed n k) a b ≡ true → any_joins (drawn_links seed n m) a b ≡ true
+unfolding drawn_links
+joined_still seed n k zero a b le e = let none : k ≡ zero = omega (arith, le) in subst (λ j. any_joins (drawn_links seed n j) a b ≡ true) none e
 joined_still seed n k (suc m) a b le e = elim (cases_eq k (suc m)) [
-  | inl same ↦ subst (λ j. any_joins (links_of seed n j) a b ≡ true) same e
-  | inr other ↦ joined_before (links_of seed n m) (cons_option (next_link n m (state seed m) (links_of seed n m)) []) a b (joined_still seed n k m a b (omega (arith, le, other)) e)
+  | inl same ↦ subst (λ j. any_joins (drawn_links seed n j) a b ≡ true) same e
+  | inr other ↦ joined_before (drawn_links seed n m) (cons_option (next_link n m (state seed m) (drawn_links seed n m)) []) a b (joined_still seed n k m a b (omega (arith, le, other)) e)
 ]
 
 -- node k + 1 is joined to a drawn node below it
-joined_below : (seed n m k : ℕ) → k + 1 < n → k < m → any_joins (links_of seed n m) (draw (k + 1) (state seed k)) (k + 1) ≡ true
+joined_below : (seed n m k : ℕ) → k + 1 < n → k < m → any_joins (drawn_links seed n m) (draw (k + 1) (state seed k)) (k + 1) ≡ true
 unfolding any_joins joins
 joined_below seed n m k node lt = joined_still seed n (suc k) m a (k + 1) (omega (arith, lt))
-    (rw (links_more seed n k (pair a (k + 1)) (tree_link n k (state seed k) (links_of seed n k) node), any_joins-push (links_of seed n k) (pair a (k + 1)) a (k + 1)) (or_right (any_joins (links_of seed n k) a (k + 1)) (joins (pair a (k + 1)) a (k + 1)) (joins_its_ends (pair a (k + 1)))))
+    (rw (links_more seed n k (pair a (k + 1)) (tree_link n k (state seed k) (drawn_links seed n k) node), any_joins-push (drawn_links seed n k) (pair a (k + 1)) a (k + 1)) (or_right (any_joins (drawn_links seed n k) a (k + 1)) (joins (pair a (k + 1)) a (k + 1)) (joins_its_ends (pair a (k + 1)))))
   where
     a : ℕ
     a = draw (k + 1) (state seed k)
@@ -188,7 +188,7 @@ reached_below seed n m (suc k) (suc v) enough le lt =
     let a = draw (v + 1) (state seed v) in
     let below : a < k = omega (arith, draw_below (v + 1) (state seed v) (omega arith), lt) in
     Reaches-step (generated seed n m) everything 0 a (suc v) (reached_below seed n m k a enough (omega (arith, le)) below)
-    (subst (λ w. any_joins (links_of seed n m) a w ≡ true) next (joined_below seed n m v (omega (arith, lt, le)) (omega (arith, lt, le, enough)))) refl
+    (subst (λ w. any_joins (drawn_links seed n m) a w ≡ true) next (joined_below seed n m v (omega (arith, lt, le)) (omega (arith, lt, le, enough)))) refl
 
 -- and the drawn network is connected
 pub drawn_connected : (seed n l : ℕ) → n ≤ l + 1 → IsConnected (generated seed n l)

@@ -7,6 +7,7 @@ use Rattle.tomo_base.specs.Network.{joins, any_joins}
 use Rattle.tomo_base.proofs.Entering.{joins_its_ends}
 use Rattle.tomo_base.proofs.Links.{joins_gives}
 use Rattle.tomo_base.proofs.Rows.{any_joins-push, AreLinks-push}
+use Rattle.drill.specs.Limits.{drawn_node_limit}
 use Rattle.drill.specs.Marks.{IsMarked}
 
 -- the place of a pair is one of n times n
@@ -38,7 +39,7 @@ same_place n a b c d lb ld same = elim (cases_order a c) [
 ]
 
 -- without links no mark is set
-pub marked_none : (n : ℕ) → n ≤ 1000 → IsMarked n [] (replicate (n * n) false)
+pub marked_none : (n : ℕ) → n ≤ drawn_node_limit → IsMarked n [] (replicate (n * n) false)
 unfolding any_joins
 marked_none n few = record {
   few_nodes = few;

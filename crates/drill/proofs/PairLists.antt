@@ -4,6 +4,7 @@ use Rattle.std.proofs.lemmas.Bool.{cases_lt, lt-ltb, le-ltb}
 use Rattle.std.proofs.lemmas.List.{append-nil, length_push}
 use Rattle.std.proofs.lemmas.List.Elements.{All-append, All-push, All-nil}
 use Rattle.drill.specs.Generated.{pair, IsPair, pairs_of, pairs_below, pairs, pair_count}
+use Rattle.drill.specs.Limits.{drawn_node_limit}
 
 -- a node has no pairs with the nodes up to itself
 pub pairs_of_none : (a b : ℕ) → b ≤ a + 1 → pairs_of a b ≡ []
@@ -51,16 +52,16 @@ length-pairs n = half n (length (pairs n)) (twice_pairs_below n n (omega arith))
         rw less (omega (arith, e))
 
 -- they are some, and can be counted in 32 bits
-pub pairs_few : (n : ℕ) → 3 ≤ n → n ≤ 1000 → (0 < length (pairs n)) × (length (pairs n) < 2 ^ 32)
+pub pairs_few : (n : ℕ) → 3 ≤ n → n ≤ drawn_node_limit → (0 < length (pairs n)) × (length (pairs n) < 2 ^ 32)
 pairs_few n some few =
     let twice = twice_pairs_below n n (omega arith) in
-    (omega (arith, twice, more n (n - 3) (omega (arith, some))), omega (arith, twice, less n (1000 - n) (omega (arith, few))))
+    (omega (arith, twice, more n (n - 3) (omega (arith, some))), omega (arith, twice, less n (drawn_node_limit - n) (omega (arith, few))))
   where
     more : (n m : ℕ) → n ≡ 3 + m → 3 * n ≤ n * n
     more n m is = let whole : n * n ≡ (3 + m) * n = ap (λ k. k * n) is in omega (arith, whole)
 
-    less : (n m : ℕ) → n + m ≡ 1000 → n * n ≤ 1000000
-    less n m is = let whole : (n + m) * (n + m) ≡ 1000 * 1000 = ap (λ k. k * k) is in omega (arith, whole)
+    less : (n m : ℕ) → n + m ≡ drawn_node_limit → n * n ≤ drawn_node_limit * drawn_node_limit
+    less n m is = let whole : (n + m) * (n + m) ≡ drawn_node_limit * drawn_node_limit = ap (λ k. k * k) is in omega (arith, whole)
 
 -- the pairs of a node are pairs
 pairs_of_are : (n a b : ℕ) → b ≤ n → All (IsPair n) (pairs_of a b)

@@ -22,3 +22,7 @@ state seed (suc i) = next (next (state seed i))
 unfoldable pub draws : ℕ → ℕ → ℕ → List ℕ
 draws seed k zero = []
 draws seed k (suc i) = draws seed k i ++ draw k (state seed i) ∷ []
+
+-- drawn delays are below this; the constant of the same name stands in `src/limits.rt`
+abbrev pub drawn_delay_limit : ℕ
+drawn_delay_limit = 1000000

@@ -3,7 +3,8 @@ use Rattle.std.specs.Prelude.{ℕ, zero, suc, ◌+◌, ◌-◌, ◌*◌, ◌/◌
 use Rattle.std.specs.List.{cons_option}
 use Rattle.tomo_base.specs.declared.graph.Link.{Link}
 use Rattle.tomo_base.specs.Network.{Network, any_joins}
-use Rattle.drill.specs.Draws.{draw, state, draws}
+use Rattle.drill.specs.Draws.{draw, state, draws, drawn_delay_limit}
+use Rattle.drill.specs.Limits.{drawn_link_limit, drawn_node_limit}
 
 -- the two nodes, lower first
 abbrev pub pair : ℕ → ℕ → Link
@@ -44,18 +45,18 @@ abbrev pub next_link : ℕ → ℕ → ℕ → List Link → Option Link
 next_link n k x links = if nat_lt (k + 1) n then Some (pair (draw (k + 1) x) (k + 1)) else first_free n links (draw (pair_count n) x)
 
 -- the first k links
-unfoldable pub links_of : ℕ → ℕ → ℕ → List Link
-links_of seed n zero = []
-links_of seed n (suc k) = links_of seed n k ++ cons_option (next_link n k (state seed k) (links_of seed n k)) []
+unfoldable pub drawn_links : ℕ → ℕ → ℕ → List Link
+drawn_links seed n zero = []
+drawn_links seed n (suc k) = drawn_links seed n k ++ cons_option (next_link n k (state seed k) (drawn_links seed n k)) []
 
--- a connected network of n nodes and l links can be drawn from the seed, within the limits of a topology
+-- a connected network of n nodes and l links can be drawn from the seed
 abbrev pub CanDraw : ℕ → ℕ → ℕ → Type 0
-CanDraw seed n l = (seed < 2 ^ 31) × (3 ≤ n) × (n ≤ 1000) × (n ≤ l + 1) × (l ≤ 4000) × (l ≤ pair_count n)
+CanDraw seed n l = (seed < 2 ^ 31) × (3 ≤ n) × (n ≤ drawn_node_limit) × (n ≤ l + 1) × (l ≤ drawn_link_limit) × (l ≤ pair_count n)
 
 -- the network of n nodes and l links that is drawn from a seed
 abbrev pub generated : ℕ → ℕ → ℕ → Network
-generated seed n l = record { nodes = n; links = links_of seed n l }
+generated seed n l = record { nodes = n; links = drawn_links seed n l }
 
 -- the delays of its links: one draw for each in their order, after the draws of all links
 abbrev pub generated_delays : ℕ → ℕ → List ℕ
-generated_delays seed l = draws (state seed l) 1000000 l
+generated_delays seed l = draws (state seed l) drawn_delay_limit l

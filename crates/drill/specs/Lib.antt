@@ -1,4 +1,5 @@
 pub mod Draws
+pub mod Limits
 pub mod Generated
 pub mod Marks
 pub mod Drill

@@ -2,6 +2,7 @@
 ghost use Rattle.std.specs.Prelude.{◌≡◌, ◌<◌, ◌≤◌, ◌+◌, ◌*◌, ◌++◌, [], ◌∷◌, All, drop, take, find, false, IfOk, OnOk, length};
 ghost use Rattle.tomo_base.specs.Network.{any_joins};
 ghost use Rattle.drill.specs.Generated.{is_free, IsPair};
+ghost use Rattle.drill.specs.Limits.{drawn_link_limit, drawn_node_limit};
 
 use std::alloc::Global;
 use std::marker::Model;
@@ -29,7 +30,7 @@ impl Model for Growing {
 impl Growing {
     /// The network of `n` nodes without links.
     pub(crate) fn new(alloc: Global, n: u32) -> Result<Growing, NoMemory>
-        requires { n ≤ 1000 }
+        requires { n ≤ drawn_node_limit }
         ensures { IfOk result (λ g. g ≡ record { nodes = n; links = [] }) }
     {
         let nodes = n as usize;
@@ -90,7 +91,7 @@ impl Growing {
 
     /// The graph of these links.
     pub(crate) fn to_graph(&self, alloc: Global) -> Result<Graph, NoMemory>
-        requires { length self.now.links ≤ 4000 }
+        requires { length self.now.links ≤ drawn_link_limit }
         ensures { IfOk result (λ g. g ≡ self.now) }
     {
         match Graph::new(alloc, self.node_count, &self.so_far) {

@@ -4,6 +4,7 @@ ghost use Rattle.tomo_base.specs.Walks.{IsConnected};
 ghost use Rattle.drill.specs.Draws.{state};
 ghost use Rattle.drill.specs.Generated as spec;
 ghost use Rattle.drill.specs.Generated.{generated, pair_count, CanDraw};
+ghost use Rattle.drill.specs.Limits.{drawn_link_limit, drawn_node_limit};
 
 use crate::draws::Draws;
 use crate::growing::Growing;
@@ -14,10 +15,10 @@ use tomo_base::{Graph, Link, NoMemory};
 // Link `k`: each node but the first is joined to a drawn node below it, and then a drawn place leads to a free pair.
 fn next_link(draws: &mut Draws, network: &Growing, pairs: &[Link], n: u32, k: u32) -> Option<Link>
     requires some_nodes { 3 ≤ n }
-    requires few_nodes { n ≤ 1000 }
+    requires few_nodes { n ≤ drawn_node_limit }
     requires nodes { network.now.nodes ≡ n }
     requires pairs { pairs.now ≡ spec.pairs n }
-    requires few { k ≤ 4000 }
+    requires few { k ≤ drawn_link_limit }
     ensures link { result ≡ spec.next_link n k draws.old network.now.links }
     ensures draws { draws.new ≡ state draws.old 1 }
 {
@@ -33,8 +34,8 @@ fn next_link(draws: &mut Draws, network: &Growing, pairs: &[Link], n: u32, k: u3
 /// is near to the number of pairs of nodes, but for the pairs that are passed on the way to a free one, each joined by a link.
 pub(crate) fn network(alloc: Global, draws: &mut Draws, n: u32, l: u32) -> Result<Graph, NoMemory>
     requires some_nodes { 3 ≤ n }
-    requires few_nodes { n ≤ 1000 }
-    requires few_links { l ≤ 4000 }
+    requires few_nodes { n ≤ drawn_node_limit }
+    requires few_links { l ≤ drawn_link_limit }
     requires room { l ≤ pair_count n }
     ensures graph { IfOk result (λ g. g ≡ generated draws.old n l) }
     ensures count { IfOk result (λ g. length g.links ≡ l) }

@@ -4,7 +4,6 @@ ghost use Rattle.tomo_base.specs.Identify.{IsAssignment};
 ghost use Rattle.link_solver.specs.Verdict.{HasSums, IsOnly};
 ghost use Rattle.planner.specs.Planned.{IsPlanned};
 
-use cert_check::laws::a_good_plan_has_no_fault;
 use cert_check::{Report, check};
 use link_solver::{Answer, Delays, solve_into};
 use plan_form::Plan;
@@ -25,7 +24,6 @@ pub(crate) fn checked(alloc: Global, t: &Topology, p: &Plan) -> Result<Shown, No
     ensures monitors { IfOk result (λ found. found.monitors ≡ length p.now.monitors) }
     ensures bound { IfOk result (λ found. found.bound ≡ length p.now.monitors) }
 {
-    a_good_plan_has_no_fault();
     match check(alloc, t, p)? {
         Report::Good { monitors, bound } => Ok(Shown { monitors, bound }),
         Report::Bad(_) => unreachable!(),

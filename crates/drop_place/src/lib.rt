@@ -3,4 +3,4 @@
 
 mod lowest;
 
-pub use lowest::place;
+pub use lowest::{nodes_outside, place, place_with};

@@ -8,13 +8,17 @@ use Rattle.tomo_base.specs.Cuts.{IsThreeConnected}
 use Rattle.tomo_base.specs.Search.{entry_at}
 use Rattle.tomo_base.proofs.Ascending.{All-from_has, place_in}
 use Rattle.ear_order.specs.Ears.{IsEar}
-use Rattle.ear_order.specs.Turns.{between, border, HasTwo, IsPart, IsTurn, IsBetter, IsSpot, IsEither, Zone, Touches}
+use Rattle.ear_order.specs.Turns.{between, border, HasTwo, IsTurn, IsBetter, IsSpot, IsEither, Zone, Touches, IsFreePart}
 use Rattle.ear_order.proofs.Spreading.{touch_from, touch_gives, off}
 use Rattle.ear_order.proofs.Places.{EarAt, run_not}
 use Rattle.ear_order.proofs.Lists.{ear_at}
 use Rattle.ear_order.proofs.Rounds.{kept_off, three_touch}
 use Rattle.ear_order.proofs.Spots.{either_ear, either_turn}
 use Rattle.ear_order.proofs.Offers.{Offer, case_one, case_two, case_three, Spot, two_spots, three_spots, Three}
+
+-- what a part touches: it has the node at a place of its order, and the link is one of the graph
+pub touch_read : (g : Network) (K : ℕ → Bool) (order xs : List ℕ) (p f : ℕ) → ((k : ℕ) → k < length order → K (entry_at order k) ≡ true) → xs ≡ order → p < length xs → linked g (entry_at xs p) f ≡ true → Touches g K f
+touch_read g K order xs p f only same within link = (entry_at order p, only p (subst (λ ys. p < length ys) same within), subst (λ ys. linked g (entry_at ys p) f ≡ true) same link)
 
 module _ (g : Network) (graph : IsGraph g) (three : IsThreeConnected g) (D : ℕ → Bool) (small : (v : ℕ) → D v ≡ true → v < g.nodes) (two : HasTwo D)
     (e : List ℕ) (ear : IsEar g D e) (K R C : ℕ → Bool) (u : ℕ) (t : IsTurn g D e K R C u) where
@@ -89,11 +93,11 @@ is_better g D R C zone f e o ear through = record {
 }
 
 -- the nodes of a part's order are nodes
-pub order_below : (g : Network) (free K : ℕ → Bool) (x : ℕ) (order : List ℕ) → IsPart g free x order K → ((v : ℕ) → K v ≡ true → v < g.nodes) → All (λ v. v < g.nodes) order
+pub order_below : (g : Network) (free K : ℕ → Bool) (x : ℕ) (order : List ℕ) → IsFreePart g free x order K → ((v : ℕ) → K v ≡ true → v < g.nodes) → All (λ v. v < g.nodes) order
 order_below g free K x order p small = All-from_has (λ v. v < g.nodes) order (λ v h. let k = place_in order v h in small v (subst (λ z. K z ≡ true) k.2 (p.only k.0 k.1)))
 
 -- where no node of the order has a neighbour with a mark but one, the part touches no other
-pub none_touched : (g : Network) (free K D : ℕ → Bool) (x other : ℕ) (order : List ℕ) → IsPart g free x order K
+pub none_touched : (g : Network) (free K D : ℕ → Bool) (x other : ℕ) (order : List ℕ) → IsFreePart g free x order K
     → ((k w : ℕ) → k < length order → linked g (entry_at order k) w ≡ true → D w ≡ true → w ≡ other) → (w : ℕ) → D w ≡ true → Touches g K w → w ≡ other
 none_touched g free K D x other order p none w d y =
     let k = place_in order y.0 (p.listed y.0 y.1) in

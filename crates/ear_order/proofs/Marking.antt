@@ -1,14 +1,11 @@
 -- Marks of the nodes of a list, and of the nodes that are left.
 use Rattle.std.proofs.Common.{◌≡◌, ℕ, ◌+◌, ◌<◌, Bool, true, false, not, ◌||◌, cond, List, [], ◌∷◌, ◌++◌, length, get_or, set, take, replicate, refl, sym, ap, ◌∙◌, inl, inr, arith, get_or-set_same, get_or-set_other}
-use Rattle.std.proofs.lemmas.Bool.{cases_eq, cases_lt, both_ways, eq-eqb, ne_eqb}
-use Rattle.std.proofs.lemmas.List.{take_more, get_or_past, get_or_append_left, get_or_push, get_or-replicate, length-replicate}
+use Rattle.std.proofs.lemmas.Bool.{cases_eq, eq-eqb, ne_eqb}
+use Rattle.std.proofs.lemmas.List.{take_more, get_or_append_left, get_or_push}
 use Rattle.tomo_base.specs.Search.{mark_of}
 use Rattle.tomo_base.specs.Sets.{has}
 use Rattle.tomo_base.proofs.Members.{has-append}
-
--- only nodes below the length are marked
-pub marked_below : (marks : List Bool) (v : ℕ) → mark_of marks v ≡ true → v < length marks
-marked_below marks v h = elim (cases_lt v (length marks)) [ inl lt ↦ lt | inr ge ↦ absurd (both_ways (mark_of marks v) (get_or_past marks v false ge) h) ]
+use Rattle.tomo_base.proofs.Marks.{bare_mark}
 
 -- one node more of the list has the mark
 pub mark_more : (marks old : List Bool) (xs : List ℕ) (i d v w : ℕ) (b : Bool) → i < length xs → v ≡ get_or xs i d → v < length marks
@@ -35,13 +32,6 @@ pub mark_push : (rest old : List Bool) (i : ℕ) (b : Bool) → length rest ≡ 
 mark_push rest old i b len is before v l = elim (cases_eq v i) [
   | inl e ↦ get_or_push rest b false v (len ∙ sym e) ∙ (is ∙ ap (λ k. not (mark_of old k)) (sym e))
   | inr ne ↦ get_or_append_left rest (b ∷ []) false v (omega (arith, len)) ∙ before v (omega arith)
-]
-
--- no mark stands among bare ones
-pub bare_mark : (n v : ℕ) → mark_of (replicate n false) v ≡ false
-bare_mark n v = elim (cases_lt v n) [
-  | inl lt ↦ get_or-replicate n v false false lt
-  | inr ge ↦ get_or_past (replicate n false) v false (omega (arith, ge, length-replicate n false))
 ]
 
 -- where nothing was marked, the nodes of the list alone are

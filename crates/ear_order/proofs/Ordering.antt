@@ -10,7 +10,7 @@ use Rattle.tomo_base.specs.Search.{mark_of, entry_at}
 use Rattle.tomo_base.proofs.Links.{joins_gives}
 use Rattle.tomo_base.proofs.Counts.{count-less, count-le}
 use Rattle.tomo_base.proofs.Ascending.{has-at}
-use Rattle.ear_order.specs.Ears.{IsEar, GoesOn, IsLast, with_ear, AreEarsAfter, ends_of, IsEarOrder, in_ears, AreEnds, IsOrder, Ears}
+use Rattle.ear_order.specs.Ears.{IsEar, IsLast, with_ear, AreEarsAfter, ends_of, IsEarOrder, in_ears, AreEnds, IsOrder, Ears, LeavesConnected}
 use Rattle.ear_order.specs.Turns.{between, IsLeft, ContinuesWith}
 use Rattle.ear_order.proofs.Spreading.{connected_same, touch_from, touch_gives}
 use Rattle.ear_order.proofs.Places.{run_at, run_gives}
@@ -63,7 +63,7 @@ unfolding AreEarsAfter
 no_ears g u old = tt
 
 -- an ear after which the order goes on, and the ears after it
-after_first : (g : Network) (u : ℕ) (old : ℕ → Bool) (e : List ℕ) (es : List (List ℕ)) → IsEar g old e → GoesOn g u old e → AreEarsAfter g u (with_ear old e) es → AreEarsAfter g u old (e ∷ es)
+after_first : (g : Network) (u : ℕ) (old : ℕ → Bool) (e : List ℕ) (es : List (List ℕ)) → IsEar g old e → LeavesConnected g u old e → AreEarsAfter g u (with_ear old e) es → AreEarsAfter g u old (e ∷ es)
 unfolding AreEarsAfter
 after_first g u old e es ear go later = (ear, inl (go, later))
 
@@ -92,7 +92,7 @@ ear_same g p q (a ∷ l) same ear = record {
   fresh = λ k d low high. sym (same (get_or (a ∷ l) k d)) ∙ ear.fresh k d low high;
 }
 
-pub goes_same : (g : Network) → IsGraph g → (u : ℕ) (p q : ℕ → Bool) (e e' : List ℕ) → ((v : ℕ) → with_ear p e v ≡ with_ear q e' v) → ((v : ℕ) → between e' v ≡ true → between e v ≡ true) → GoesOn g u p e → GoesOn g u q e'
+pub goes_same : (g : Network) → IsGraph g → (u : ℕ) (p q : ℕ → Bool) (e e' : List ℕ) → ((v : ℕ) → with_ear p e v ≡ with_ear q e' v) → ((v : ℕ) → between e' v ≡ true → between e v ≡ true) → LeavesConnected g u p e → LeavesConnected g u q e'
 goes_same g graph u p q e e' same back go = record {
   third = sym (same u) ∙ go.third;
   connected = connected_same g graph (complement (with_ear p e)) (complement (with_ear q e')) (λ v l. ap (λ b. complement (λ w. b) v) (same v)) go.connected;

@@ -1,29 +1,14 @@
 -- What a search from one node reaches is its part: connected, and closed among the free nodes.
-use Rattle.std.proofs.Common.{◌≡◌, ℕ, zero, suc, ◌+◌, ◌<◌, Bool, true, List, [], ◌∷◌, length, get_or, sym, subst, ap, ◌∙◌, arith}
-use Rattle.tomo_base.specs.declared.graph.Hop.{Hop}
+use Rattle.std.proofs.Common.{◌≡◌, ℕ, zero, suc, ◌+◌, ◌<◌, Bool, true, List, [], ◌∷◌, length, sym, subst, ap, ◌∙◌, arith}
 use Rattle.tomo_base.specs.Network.{Network, linked, IsGraph}
 use Rattle.tomo_base.specs.Sets.{has}
-use Rattle.tomo_base.specs.Table.{AreHops}
 use Rattle.tomo_base.specs.Walks.{Reaches}
 use Rattle.tomo_base.specs.Search.{mark_of, entry_at, IsSearch}
 use Rattle.tomo_base.proofs.Links.{linked_below}
-use Rattle.tomo_base.proofs.Rows.{any_joins-from, any_joins_gives}
 use Rattle.tomo_base.proofs.Walks.{Reaches-trans, Reaches-step, Reaches_comm}
-use Rattle.tomo_base.proofs.Searching.{few_ranked}
+use Rattle.tomo_base.proofs.Ranks.{few_ranked}
 use Rattle.tomo_base.proofs.Ascending.{place_in, has-at}
-use Rattle.ear_order.specs.Turns.{IsPart}
-
--- a hop leads to a neighbour
-pub hop_linked : (g : Network) (v : ℕ) (hops : List Hop) → AreHops g.links v hops → (k : ℕ) (d : Hop) → k < length hops → linked g v (get_or hops k d).node ≡ true
-hop_linked g v hops are k d l = any_joins-from g.links (get_or hops k d).link v (get_or hops k d).node (are.sound k d l)
-
--- and to each neighbour one does
-pub linked_hop : (g : Network) (v w : ℕ) (hops : List Hop) → AreHops g.links v hops → linked g v w ≡ true → (k : ℕ) × (d : Hop) × (k < length hops) × ((get_or hops k d).node ≡ w)
-linked_hop g v w hops are l =
-    let number = any_joins_gives g.links v w l in
-    let there = are.complete number.0 w number.1 in
-    let hop : Hop = record { node = w; link = number.0 } in
-    (there.0, hop, there.1, ap (λ (h : Hop). h.node) there.2)
+use Rattle.ear_order.specs.Turns.{IsFreePart}
 
 module _ (g : Network) (graph : IsGraph g) (free : List Bool) (x : ℕ) (order parent rank : List ℕ) (s : IsSearch g free (x ∷ []) (length order) order parent rank)
     (inside : ℕ → Bool) (is : (v : ℕ) → inside v ≡ has order v) where
@@ -51,7 +36,7 @@ module _ (g : Network) (graph : IsGraph g) (free : List Bool) (x : ℕ) (order p
   x_inside = let first = s.begins 0 (omega arith) in subst (λ v. inside v ≡ true) first.1 (at 0 first.0)
 
   -- the part of x
-  pub part_from : IsPart g (mark_of free) x order inside
+  pub part_from : IsFreePart g (mark_of free) x order inside
   part_from = record {
     holds = x_inside;
     within = λ v h. let k = place v h in subst (λ w. mark_of free w ≡ true) k.2 (s.ranks.allowed k.0 k.1);

@@ -1,7 +1,7 @@
 -- A search through a zone from the neighbours of a node, and the path that leads back from what it reached.
 use Rattle.std.proofs.Common.{◌≡◌, ◌≢◌, ◌⊎◌, ℕ, suc, ◌+◌, ◌-◌, ◌<◌, ◌≤◌, Bool, true, false, ◌||◌, ◌==◌, List, [], ◌∷◌, ◌++◌, length, get_or, AllPairs, refl, sym, subst, ap, ◌∙◌, inl, inr, arith}
 use Rattle.std.proofs.lemmas.Bool.{cases_eq, cases_lt, both_ways, or_cases, or_left, or_right, eqb-true, eq-eqb, false≢true}
-use Rattle.std.proofs.lemmas.List.{get_or_default, get_or_append_left, get_or_push, length_push}
+use Rattle.std.proofs.lemmas.List.{get_or_default, get_or_read, length_push}
 use Rattle.std.proofs.lemmas.List.Quantifiers.{all_pairs_push}
 use Rattle.tomo_base.specs.declared.graph.Hop.{Hop}
 use Rattle.tomo_base.specs.declared.search.Swept.{Swept}
@@ -11,20 +11,13 @@ use Rattle.tomo_base.specs.Table.{AreHops}
 use Rattle.tomo_base.specs.Search.{mark_of, entry_at, IsSweep}
 use Rattle.tomo_base.proofs.Links.{linked_below, linked_comm}
 use Rattle.tomo_base.proofs.Members.{has-append}
-use Rattle.tomo_base.proofs.Searching.{few_ranked}
+use Rattle.tomo_base.proofs.Ranks.{few_ranked}
 use Rattle.tomo_base.proofs.Ascending.{place_in, has-at}
 use Rattle.ear_order.specs.Crossing.{Crosses}
 use Rattle.ear_order.specs.Paths.{AreSeeds, LeadsBack, IsReached}
-use Rattle.ear_order.proofs.Parting.{hop_linked, linked_hop}
+use Rattle.tomo_base.proofs.Rows.{hop_linked, linked_hop}
 use Rattle.ear_order.proofs.Places.{EarAt}
-
--- the number at a place of a list with one more, before the last place
-at_before : (xs : List ℕ) (x k : ℕ) → k < length xs → entry_at (xs ++ x ∷ []) k ≡ entry_at xs k
-at_before xs x k l = get_or_append_left xs (x ∷ []) 0 k l
-
--- and at the last
-at_last : (xs : List ℕ) (x k : ℕ) → k ≡ length xs → entry_at (xs ++ x ∷ []) k ≡ x
-at_last xs x k same = get_or_push xs x 0 k (sym same)
+use Rattle.tomo_base.proofs.Lists.{at_before, at_last}
 
 -- ---- the seeds
 
@@ -79,7 +72,7 @@ seeding_more g zone e hops i w seeds d₀ are l is in_zone s =
     record {
       each = λ v h. elim (cases v h) [
         | inl old ↦ s.each v old
-        | inr same ↦ (subst (λ z. linked g e z ≡ true) (sym is ∙ same) (hop_linked g e hops are i d₀ l), subst (λ z. mark_of zone z ≡ true) same in_zone)
+        | inr same ↦ (subst (λ z. linked g e z ≡ true) (sym is ∙ same) (hop_linked g e hops i d₀ are l), subst (λ z. mark_of zone z ≡ true) same in_zone)
       ];
       earlier = λ v h. elim (cases v h) [
         | inl old ↦ (let k = s.earlier v old in (k.0, k.1, omega (arith, k.2), k.3))
@@ -99,7 +92,8 @@ seeding_done g zone e hops i seeds are all s = record {
   each = s.each;
   all = λ v l h.
       let k = linked_hop g e v hops are l in
-      subst (λ z. has seeds z ≡ true) k.3 (s.all k.0 k.1 (omega (arith, k.2, all)) (subst (λ z. mark_of zone z ≡ true) (sym k.3) h));
+      let d : Hop = record { node = 0; link = 0 } in
+      subst (λ z. has seeds z ≡ true) (k.2 d) (s.all k.0 d (omega (arith, k.1, all)) (subst (λ z. mark_of zone z ≡ true) (sym (k.2 d)) h));
   different = s.different;
 }
 
@@ -187,9 +181,18 @@ trailing_more g e s z path v leads other t = elim (leads.back v t.here) [
 pub reached_below : (g : Network) (e : ℕ) (s : Swept) (v : ℕ) → LeadsBack g e s → has s.order.items v ≡ true → v < g.nodes
 reached_below g e s v leads h = let k = place_in s.order.items v h in subst (λ z. z < g.nodes) k.2 (leads.placed k.0 k.1).0
 
+-- the parent that is read for a reached node
+pub parent_read : (g : Network) (e : ℕ) (s : Swept) (v x : ℕ) → LeadsBack g e s → has s.order.items v ≡ true → x ≡ get_or s.parent.items v x → x ≡ entry_at s.parent.items v
+parent_read g e s v x leads h at = get_or_read s.parent.items _ _ (omega (arith, reached_below g e s v leads h, leads.parents)) at 0
+
 -- the rank falls to another parent
 pub rank_less : (g : Network) (e : ℕ) (s : Swept) (v : ℕ) → LeadsBack g e s → has s.order.items v ≡ true → (entry_at s.parent.items v ≡ v → ⊥) → entry_at s.rank.items (entry_at s.parent.items v) < entry_at s.rank.items v
 rank_less g e s v leads h other = elim (leads.back v h) [ inl seed ↦ absurd (other seed.0) | inr b ↦ b.1 ]
+
+-- so it falls to a parent that is read and is another node
+pub falls_to_read : (g : Network) (e : ℕ) (s : Swept) (v x y : ℕ) → LeadsBack g e s → has s.order.items v ≡ true → x ≡ get_or s.parent.items v x → y ≡ get_or s.parent.items v y → (x ≡ v → ⊥) → entry_at s.rank.items y < entry_at s.rank.items v
+falls_to_read g e s v x y leads h test next other =
+    subst (λ w. entry_at s.rank.items w < entry_at s.rank.items v) (sym (parent_read g e s v y leads h next)) (rank_less g e s v leads h (λ same. other (parent_read g e s v x leads h test ∙ same)))
 
 -- at the first node
 pub trailing_none : (g : Network) (e : ℕ) (s : Swept) (z v : ℕ) → linked g v z ≡ true → has s.order.items v ≡ true → Trailing g e s z (z ∷ []) v

@@ -9,11 +9,11 @@ use Rattle.tomo_base.proofs.Ascending.{All-from_has, place_in}
 use Rattle.tomo_base.proofs.Links.{linked_comm}
 use Rattle.ear_order.specs.Ears.{IsEar, IsLast}
 use Rattle.ear_order.specs.Crossing.{Crosses}
-use Rattle.ear_order.specs.Turns.{IsLeft, AreLeft, IsPart, Touches}
+use Rattle.ear_order.specs.Turns.{IsLeft, AreLeft, Touches, IsFreePart}
 use Rattle.ear_order.proofs.Spreading.{touch_gives, off}
 use Rattle.ear_order.proofs.Outer.{another, three_beside}
 use Rattle.ear_order.proofs.Zones.{two_ends}
-use Rattle.ear_order.proofs.Marking.{marked_below}
+use Rattle.tomo_base.proofs.Marks.{marked_below}
 
 module _ (g : Network) (graph : IsGraph g) (old : List Bool) (u : ℕ) (left : IsLeft g old u) where
   old_small : (v : ℕ) → mark_of old v ≡ true → v < g.nodes
@@ -108,7 +108,7 @@ module _ (g : Network) (graph : IsGraph g) (old : List Bool) (u : ℕ) (left : I
         ]
 
   -- the part of another node that is left, without u
-  module _ (rest : List Bool) (are : AreLeft old rest) (free : List Bool) (is : free ≡ set rest u false) (x : ℕ) (order : List ℕ) (K : ℕ → Bool) (p : IsPart g (mark_of free) x order K) where
+  module _ (rest : List Bool) (are : AreLeft old rest) (free : List Bool) (is : free ≡ set rest u false) (x : ℕ) (order : List ℕ) (K : ℕ → Bool) (p : IsFreePart g (mark_of free) x order K) where
     part_new : (v : ℕ) → K v ≡ true → (v < g.nodes) × (mark_of old v ≡ false) × (v ≡ u → ⊥)
     part_new v k =
         let at : mark_of (set rest u false) v ≡ true = ap (λ xs. mark_of xs v) (sym is) ∙ p.within v k in

@@ -2,19 +2,22 @@
 use Rattle.std.proofs.Common.{◌≡◌, ◌≢◌, ◌⊎◌, ℕ, ◌-◌, ◌<◌, ◌≤◌, Bool, true, false, ◌||◌, ◌==◌, List, [], ◌∷◌, length, set, replicate, reverse, get_or-set_same, get_or-set_other, length-set, refl, sym, subst, ap, ap₂, ◌∙◌, inl, inr, arith}
 use Rattle.std.proofs.lemmas.Bool.{cases_Bool, cases_eq, both_ways, or_cases, or_left, or_right, eqb-true, eq-eqb}
 use Rattle.std.proofs.lemmas.List.{length-replicate, length-reverse}
-use Rattle.tomo_base.specs.Network.{Network, IsGraph}
+use Rattle.tomo_base.specs.Limits.{graph_node_limit}
+use Rattle.tomo_base.specs.Network.{Network, linked, IsGraph}
 use Rattle.tomo_base.specs.Sets.{has, complement}
 use Rattle.tomo_base.specs.Cuts.{IsThreeConnected}
 use Rattle.tomo_base.specs.Search.{mark_of, entry_at}
+use Rattle.tomo_base.proofs.Links.{linked_below}
 use Rattle.tomo_base.proofs.Ascending.{place_in, has-at}
-use Rattle.ear_order.specs.Ears.{IsEar, GoesOn, IsLast, with_ear, ends_of, AreEnds, IsOrder}
+use Rattle.ear_order.specs.Ears.{IsEar, IsLast, with_ear, ends_of, AreEnds, IsOrder, LeavesConnected}
 use Rattle.ear_order.specs.Turns.{between, IsLeft, IsEither, ContinuesWith}
 use Rattle.ear_order.proofs.Spreading.{connected_same}
 use Rattle.ear_order.proofs.Outer.{pair, connected_without}
 use Rattle.ear_order.proofs.Places.{run_gives}
 use Rattle.ear_order.proofs.Lists.{ear_at, has_between}
-use Rattle.ear_order.proofs.Marking.{bare_mark}
-use Rattle.ear_order.proofs.Turned.{tests_agree, entry_reverse, reverse_between}
+use Rattle.tomo_base.proofs.Marks.{bare_mark}
+use Rattle.ear_order.proofs.Turned.{entry_reverse, reverse_between}
+use Rattle.tomo_base.proofs.Lists.{same_test}
 use Rattle.ear_order.proofs.Spots.{either_ear}
 use Rattle.ear_order.proofs.Ordering.{ear_same, goes_same, ends_differ, no_ears}
 
@@ -53,6 +56,15 @@ marks_two n r t v lr lt =
       | inr n ↦ n
     ]
 
+-- what a copy of such marks says
+pub marks_first : (g : Network) → IsGraph g → (n r t : ℕ) → n ≡ g.nodes → linked g r t ≡ true → (bare xs : List Bool) → bare ≡ replicate n false → xs ≡ set (set bare r true) t true
+    → ((v : ℕ) → mark_of xs v ≡ ends_of r t v) × (length xs ≡ g.nodes)
+marks_first g graph n r t size link bare xs none is =
+    let ends = linked_below g.nodes g.links r t graph link in
+    let marks : xs ≡ set (set (replicate n false) r true) t true = is ∙ ap (λ ys. set (set ys r true) t true) none in
+    let long : length (set (set (replicate n false) r true) t true) ≡ n = length-set (set (replicate n false) r true) t true ∙ (length-set (replicate n false) r true ∙ length-replicate n false) in
+    (λ v. ap (λ ys. mark_of ys v) marks ∙ marks_two n r t v (omega (arith, ends.0, size)) (omega (arith, ends.1, size)), ap (λ ys. length ys) marks ∙ (long ∙ size))
+
 module _ (g : Network) (graph : IsGraph g) (three : IsThreeConnected g) (r t u : ℕ) (ends : AreEnds g r t u) (old : List Bool) (is : (v : ℕ) → mark_of old v ≡ ends_of r t v) where
   -- what is left before the first ear
   pub left_first : length old ≡ g.nodes → IsLeft g old u
@@ -66,7 +78,7 @@ module _ (g : Network) (graph : IsGraph g) (three : IsThreeConnected g) (r t u :
   }
     where
       same : (v : ℕ) → pair r t v ≡ mark_of old v
-      same v = tests_agree (pair r t v) (mark_of old v)
+      same v = same_test (pair r t v) (mark_of old v)
           (λ h. is v ∙ elim (or_cases (v == r) (v == t) h) [
             | inl e ↦ subst (λ z. ends_of r t z ≡ true) (sym (eqb-true v r e)) (first_end r t)
             | inr e ↦ subst (λ z. ends_of r t z ≡ true) (sym (eqb-true v t e)) (last_end r t)
@@ -112,7 +124,7 @@ module _ (g : Network) (graph : IsGraph g) (three : IsThreeConnected g) (r t u :
   either_has e given (inr turned) v = reversed given v ∙ ap (λ xs. has xs v) (sym turned)
     where
       reversed : (xs : List ℕ) (v : ℕ) → has xs v ≡ has (reverse xs) v
-      reversed xs v = tests_agree (has xs v) (has (reverse xs) v)
+      reversed xs v = same_test (has xs v) (has (reverse xs) v)
           (λ h.
           let i = place_in xs v h in
           let k : length xs - 1 - (length xs - 1 - i.0) ≡ i.0 = omega (arith, i.1) in
@@ -127,7 +139,7 @@ module _ (g : Network) (graph : IsGraph g) (three : IsThreeConnected g) (r t u :
   either_between e given (inr turned) long v h = sym (reverse_between given long v) ∙ subst (λ xs. between xs v ≡ true) turned h
 
   -- the order with its first ear, turned so that it does not begin with t
-  pub order_first : g.nodes ≤ 10000 → (e given : List ℕ) → IsEar g (mark_of old) given → ContinuesWith g u (mark_of old) given → IsEither e given → t ≢ entry_at e 0 → IsOrder (record { graph = g; r = r; t = t; u = u; list = e ∷ [] })
+  pub order_first : g.nodes ≤ graph_node_limit → (e given : List ℕ) → IsEar g (mark_of old) given → ContinuesWith g u (mark_of old) given → IsEither e given → t ≢ entry_at e 0 → IsOrder (record { graph = g; r = r; t = t; u = u; list = e ∷ [] })
   order_first few e given ear next either apart =
       let mine : IsEar g (ends_of r t) e = ear_same g (mark_of old) (ends_of r t) e is (either_ear g (mark_of old) e given either ear) in
       let at = ear_at g (ends_of r t) e mine in
@@ -149,6 +161,6 @@ module _ (g : Network) (graph : IsGraph g) (three : IsThreeConnected g) (r t u :
         };
       }
     where
-      goes : ContinuesWith g u (mark_of old) given → GoesOn g u (ends_of r t) e
+      goes : ContinuesWith g u (mark_of old) given → LeavesConnected g u (ends_of r t) e
       goes (inl go) = goes_same g graph u (mark_of old) (ends_of r t) given e (λ v. ap₂ ◌||◌ (is v) (either_has e given either v)) (either_between e given either ear.three) go
       goes (inr last) = absurd (not_last given ear last)

@@ -1,6 +1,5 @@
 -- An ear read from its other end.
-use Rattle.std.proofs.Common.{◌≡◌, ℕ, suc, ◌-◌, ◌<◌, ◌≤◌, Bool, true, List, length, reverse, sym, subst, ap, ◌∙◌, inl, inr, arith}
-use Rattle.std.proofs.lemmas.Bool.{cases_Bool, both_ways, false_from_ne_true}
+use Rattle.std.proofs.Common.{◌≡◌, ℕ, suc, ◌-◌, ◌<◌, ◌≤◌, Bool, true, List, length, reverse, sym, subst, ap, ◌∙◌, arith}
 use Rattle.std.proofs.lemmas.List.{get_or-reverse, length-reverse}
 use Rattle.tomo_base.specs.Network.{Network}
 use Rattle.tomo_base.specs.Search.{entry_at}
@@ -9,6 +8,7 @@ use Rattle.ear_order.specs.Ears.{IsEar}
 use Rattle.ear_order.specs.Turns.{between, IsTurn}
 use Rattle.ear_order.proofs.Places.{run_at, run_gives}
 use Rattle.ear_order.proofs.Lists.{ear_at, ear_from}
+use Rattle.tomo_base.proofs.Lists.{same_test}
 
 -- the places of a turned list
 pub entry_reverse : (e : List ℕ) (i : ℕ) → i < length e → entry_at (reverse e) i ≡ entry_at e (length e - 1 - i)
@@ -35,16 +35,9 @@ reverse_ear g D e ear =
       fresh = λ i low l. rw (turned i (omega (arith, l))) (at.fresh (length e - 1 - i) (omega (arith, l)) (omega (arith, low, l)));
     })
 
--- tests that say yes for the same nodes agree
-pub tests_agree : (a b : Bool) → (a ≡ true → b ≡ true) → (b ≡ true → a ≡ true) → a ≡ b
-tests_agree a b f h = elim (cases_Bool a) [
-  | inl y ↦ y ∙ sym (f y)
-  | inr n ↦ n ∙ sym (false_from_ne_true b (λ t. both_ways a n (h t)))
-]
-
 -- with the same nodes between its ends
 pub reverse_between : (e : List ℕ) → 3 ≤ length e → (v : ℕ) → between (reverse e) v ≡ between e v
-reverse_between e long v = tests_agree (between (reverse e) v) (between e v)
+reverse_between e long v = same_test (between (reverse e) v) (between e v)
     (λ h.
     let i = run_gives (entry_at (reverse e)) 1 (length (reverse e) - 1) v h in
     let l : i.0 < length e - 1 = omega (arith, i.2, length-reverse e) in

@@ -1,7 +1,7 @@
 -- The loop of the search for the next ear: what each turn keeps, and why the part of u grows.
 use Rattle.std.proofs.Common.{◌≡◌, ◌≢◌, ◌⊎◌, ℕ, ◌+◌, ◌-◌, ◌<◌, ◌≤◌, Bool, true, false, not, ◌&&◌, ◌||◌, ◌==◌, cond, List, [], ◌∷◌, ◌++◌, length, get_or, set, take, All, get_or-set_same, get_or-set_other, refl, sym, subst, ap, ◌∙◌, inl, inr, arith}
 use Rattle.std.proofs.lemmas.Bool.{cases_Bool, cases_eq, both_ways, and_parts, and_from, or_cases, or_left, or_right, not-true, not_from_false, false_from_ne_true, eq-eqb, eqb-true}
-use Rattle.std.proofs.lemmas.List.{take_more, get_or_default}
+use Rattle.std.proofs.lemmas.List.{take_more, get_or_default, get_or_read}
 use Rattle.tomo_base.specs.declared.graph.Hop.{Hop}
 use Rattle.tomo_base.specs.Network.{Network, linked, IsGraph}
 use Rattle.tomo_base.specs.Sets.{has, count, complement}
@@ -9,12 +9,12 @@ use Rattle.tomo_base.specs.Table.{AreHops}
 use Rattle.tomo_base.specs.Search.{mark_of, entry_at}
 use Rattle.tomo_base.proofs.Counts.{count-less}
 use Rattle.tomo_base.proofs.Ascending.{place_in, All-from_has}
-use Rattle.ear_order.specs.Ears.{IsEar, GoesOn, with_ear}
-use Rattle.ear_order.specs.Turns.{between, border, IsLeft, AreLeft, IsPart, Round, IsTurn, IsBetter, IsClear, IsBeyond}
+use Rattle.ear_order.specs.Ears.{IsEar, with_ear, LeavesConnected}
+use Rattle.ear_order.specs.Turns.{between, border, IsLeft, AreLeft, Round, IsTurn, IsBetter, IsClear, IsBeyond, IsFreePart}
 use Rattle.ear_order.proofs.Spreading.{spreads, connected_same, touch_from, touch_gives}
 use Rattle.ear_order.proofs.Reaching.{has-push}
-use Rattle.ear_order.proofs.Parting.{hop_linked, linked_hop}
-use Rattle.ear_order.proofs.Marking.{marked_below}
+use Rattle.tomo_base.proofs.Rows.{hop_linked, linked_hop}
+use Rattle.tomo_base.proofs.Marks.{marked_below}
 use Rattle.ear_order.proofs.Places.{run_at, run_gives}
 use Rattle.ear_order.proofs.Lists.{between_has, has_between, between_new}
 use Rattle.ear_order.proofs.Spots.{ear_below}
@@ -62,8 +62,8 @@ pub clearing_done : (g : Network) (v : ℕ) (before after : ℕ → Bool) (hops 
 clearing_done g v before after hops i are all within c = record {
   kept = λ w h.
       let old = c.kept w h in
-      (old.0, old.1, false_from_ne_true (linked g v w) (λ l. let k = linked_hop g v w hops are l in old.2 k.0 k.1 (omega (arith, k.2, all)) k.3));
-  rest = λ w h other none. c.rest w h other (λ k d lt at. both_ways (linked g v w) none (subst (λ z. linked g v z ≡ true) at (hop_linked g v hops are k d (omega (arith, lt, within)))));
+      (old.0, old.1, false_from_ne_true (linked g v w) (λ l. let k = linked_hop g v w hops are l in old.2 k.0 (record { node = 0; link = 0 }) (omega (arith, k.1, all)) (k.2 (record { node = 0; link = 0 }))));
+  rest = λ w h other none. c.rest w h other (λ k d lt at. both_ways (linked g v w) none (subst (λ z. linked g v z ≡ true) at (hop_linked g v hops k d are (omega (arith, lt, within)))));
 }
 
 -- ---- what lies beyond the part
@@ -102,7 +102,7 @@ without_ear false true = refl
 without_ear false false = refl
 
 -- a part among the same nodes
-pub part_same : (g : Network) (free free' : ℕ → Bool) (x : ℕ) (order : List ℕ) (inside : ℕ → Bool) → ((v : ℕ) → free v ≡ free' v) → IsPart g free x order inside → IsPart g free' x order inside
+pub part_same : (g : Network) (free free' : ℕ → Bool) (x : ℕ) (order : List ℕ) (inside : ℕ → Bool) → ((v : ℕ) → free v ≡ free' v) → IsFreePart g free x order inside → IsFreePart g free' x order inside
 part_same g free free' x order inside same p = record {
   holds = p.holds;
   within = λ v h. sym (same v) ∙ p.within v h;
@@ -137,24 +137,41 @@ module _ (g : Network) (graph : IsGraph g) (old rest : List Bool) (u : ℕ) (lef
   u_left = new_rest u left.node left.third
 
   -- what is left is the part of u in it
-  pub all_left : (order : List ℕ) (inside : ℕ → Bool) → IsPart g (mark_of rest) u order inside → (v : ℕ) → mark_of rest v ≡ true → has order v ≡ true
+  pub all_left : (order : List ℕ) (inside : ℕ → Bool) → IsFreePart g (mark_of rest) u order inside → (v : ℕ) → mark_of rest v ≡ true → has order v ≡ true
   all_left order inside p v h = p.listed v
       (spreads g (mark_of rest) inside (connected_same g graph (complement (mark_of old)) (mark_of rest) (λ w l. sym (rest_is w l)) left.connected)
       (λ a b ra ia l rb. p.closed a b ia l rb) u v left.node (rest_below v h) u_left h p.holds)
 
   -- where u alone is in it, it alone is left
-  pub alone_left : (order : List ℕ) (inside : ℕ → Bool) → IsPart g (mark_of rest) u order inside → length order ≡ 1 → (v : ℕ) → v < g.nodes → mark_of old v ≡ false → v ≡ u
+  pub alone_left : (order : List ℕ) (inside : ℕ → Bool) → IsFreePart g (mark_of rest) u order inside → length order ≡ 1 → (v : ℕ) → v < g.nodes → mark_of old v ≡ false → v ≡ u
   alone_left order inside p one v l new =
       let k = place_in order v (all_left order inside p v (new_rest v l new)) in
       let first : k.0 ≡ 0 = omega (arith, k.1, one) in
       sym k.2 ∙ (ap (entry_at order) first ∙ p.first)
 
   -- the last node of it is another one
-  pub last_left : (order : List ℕ) (inside : ℕ → Bool) → IsPart g (mark_of rest) u order inside → (k : ℕ) → 1 ≤ k → k < length order → (mark_of rest (entry_at order k) ≡ true) × (entry_at order k ≢ u)
+  pub last_left : (order : List ℕ) (inside : ℕ → Bool) → IsFreePart g (mark_of rest) u order inside → (k : ℕ) → 1 ≤ k → k < length order → (mark_of rest (entry_at order k) ≡ true) × (entry_at order k ≢ u)
   last_left order inside p k low l = (p.within (entry_at order k) (p.only k l), λ same. p.different 0 k (omega (arith, low)) l (p.first ∙ sym same))
 
+  -- what a search is given is what is left
+  pub part_read : (free : List Bool) (order : List ℕ) (inside : ℕ → Bool) → free ≡ rest → IsFreePart g (mark_of free) u order inside → IsFreePart g (mark_of rest) u order inside
+  part_read free order inside same p = subst (λ xs. IsFreePart g (mark_of xs) u order inside) same p
+
+  -- a part has the node from which it is searched
+  pub part_some : (order : List ℕ) (inside : ℕ → Bool) → IsFreePart g (mark_of rest) u order inside → 1 ≤ length order
+  part_some order inside p = let k = place_in order u (p.listed u p.holds) in omega (arith, k.1)
+
+  -- the last node of a larger part is left, and another
+  pub last_read : (order : List ℕ) (inside : ℕ → Bool) → IsFreePart g (mark_of rest) u order inside → (count x : ℕ) → count ≡ length order → (count ≡ 1 → ⊥) → x ≡ get_or order (count - 1) x → (mark_of rest x ≡ true) × (x ≢ u)
+  last_read order inside p count x size more at =
+      let some : 1 ≤ length order = part_some order inside p in
+      let within : count - 1 < length order = omega (arith, some, size) in
+      let last = last_left order inside p (count - 1) (omega (arith, some, size, more)) within in
+      let x_is : x ≡ entry_at order (count - 1) = get_or_read order _ _ within at 0 in
+      (rw x_is last.0, λ same. last.1 (sym x_is ∙ same))
+
   -- its nodes are nodes
-  pub order_left : (order : List ℕ) (inside : ℕ → Bool) → IsPart g (mark_of rest) u order inside → All (λ v. v < g.nodes) order
+  pub order_left : (order : List ℕ) (inside : ℕ → Bool) → IsFreePart g (mark_of rest) u order inside → All (λ v. v < g.nodes) order
   order_left order inside p = All-from_has (λ v. v < g.nodes) order (λ v h. let k = place_in order v h in subst (λ z. z < g.nodes) k.2 (rest_below (entry_at order k.0) (p.within (entry_at order k.0) (p.only k.0 k.1))))
 
   -- an ear off u between its ends
@@ -167,7 +184,7 @@ module _ (g : Network) (graph : IsGraph g) (old rest : List Bool) (u : ℕ) (lef
     ])
 
     -- and the part of u that it leaves
-    module _ (order : List ℕ) (C : ℕ → Bool) (p : IsPart g (λ v. mark_of rest v && not (has e v)) u order C) where
+    module _ (order : List ℕ) (C : ℕ → Bool) (p : IsFreePart g (λ v. mark_of rest v && not (has e v)) u order C) where
       -- are the facts of a turn
       pub round_from : Round g (mark_of old) (mark_of rest) (between e) C u
       round_from = record {
@@ -214,7 +231,7 @@ module _ (g : Network) (graph : IsGraph g) (old rest : List Bool) (u : ℕ) (lef
         ))
 
         -- a part of them makes a turn
-        pub turn_from : (x : ℕ) (further : List ℕ) (K : ℕ → Bool) → IsPart g others x further K → IsTurn g (mark_of old) e K (mark_of rest) C u
+        pub turn_from : (x : ℕ) (further : List ℕ) (K : ℕ → Bool) → IsFreePart g others x further K → IsTurn g (mark_of old) e K (mark_of rest) C u
         turn_from x further K q = record {
           round = round_from;
           rest = λ v k. (others_gives v (q.within v k)).0;
@@ -226,7 +243,7 @@ module _ (g : Network) (graph : IsGraph g) (old rest : List Bool) (u : ℕ) (lef
         }
 
         -- where there are none, the order goes on after the ear
-        pub ends_from : ((v : ℕ) → mark_of rest v ≡ true → others v ≡ false) → GoesOn g u (mark_of old) e
+        pub ends_from : ((v : ℕ) → mark_of rest v ≡ true → others v ≡ false) → LeavesConnected g u (mark_of old) e
         ends_from none =
             let done : (v : ℕ) → mark_of rest v ≡ true → (C v ≡ true) ⊎ (border g (mark_of rest) C v ≡ true) = λ v r. elim (cases_Bool (C v)) [
               | inl c ↦ inl c

@@ -1,6 +1,7 @@
 -- Ears of a graph, and orders of ears in which what is left stays connected (Cheriyan and Maheshwari, 1988).
 use Rattle.std.specs.Prelude.{ℕ, ◌≡◌, ◌-◌, ◌<◌, ◌≤◌, ◌⊎◌, Bool, false, ◌||◌, List, [], ◌∷◌, ◌++◌, length, IsTrue}
 use Rattle.std.specs.List.{AllWithin}
+use Rattle.tomo_base.specs.Limits.{graph_node_limit}
 use Rattle.tomo_base.specs.Network.{Network, linked, IsGraph}
 use Rattle.tomo_base.specs.Sets.{has, union, complement, touches}
 use Rattle.tomo_base.specs.Walks.{IsWalk, EndsIn, NoneTwice, IsConnectedIn}
@@ -20,7 +21,7 @@ abbrev pub with_ear : (ℕ → Bool) → List ℕ → ℕ → Bool
 with_ear old ear = union old (has ear)
 
 -- the nodes that are in no ear so far hold u and are connected, and each node between the ends of the ear has a neighbour among them
-pub record GoesOn (g : Network) (u : ℕ) (old : ℕ → Bool) (ear : List ℕ) : Type 0 where
+pub record LeavesConnected (g : Network) (u : ℕ) (old : ℕ → Bool) (ear : List ℕ) : Type 0 where
   pub third : with_ear old ear u ≡ false
   pub connected : IsConnectedIn g (complement (with_ear old ear))
   pub touched : AllWithin (λ v. IsTrue (touches g (complement (with_ear old ear)) v)) ear 1 (length ear - 1)
@@ -34,7 +35,7 @@ pub record IsLast (g : Network) (u : ℕ) (old : ℕ → Bool) (ear : List ℕ) 
 -- each is an ear for the set and the ears before it, and after it the order goes on; or it is the last of all
 unfoldable pub AreEarsAfter : Network → ℕ → (ℕ → Bool) → List (List ℕ) → Type 0
 AreEarsAfter g u old [] = Unit {0}
-AreEarsAfter g u old (e ∷ es) = IsEar g old e × ((GoesOn g u old e × AreEarsAfter g u (with_ear old e) es) ⊎ ((es ≡ []) × IsLast g u old e))
+AreEarsAfter g u old (e ∷ es) = IsEar g old e × ((LeavesConnected g u old e × AreEarsAfter g u (with_ear old e) es) ⊎ ((es ≡ []) × IsLast g u old e))
 
 -- the two ends of the first ear
 abbrev pub ends_of : ℕ → ℕ → ℕ → Bool
@@ -45,7 +46,7 @@ pub record BeginsWith (g : Network) (r t u : ℕ) (e : List ℕ) (es : List (Lis
   pub begins : entry_at e 0 ≡ r
   pub ends : entry_at e (length e - 1) ≡ t
   pub ear : IsEar g (ends_of r t) e
-  pub goes_on : GoesOn g u (ends_of r t) e
+  pub goes_on : LeavesConnected g u (ends_of r t) e
   pub later : AreEarsAfter g u (with_ear (ends_of r t) e) es
 
 -- an ear order so far, for the link between r and t and the third node u
@@ -80,7 +81,7 @@ pub record Ears : Type 0 where
 -- the graph stays connected without any two nodes, and the ears are an ear order of it so far
 pub record IsOrder (o : Ears) : Type 0 where
   pub graph : IsGraph o.graph
-  pub few : o.graph.nodes ≤ 10000
+  pub few : o.graph.nodes ≤ graph_node_limit
   pub three : IsThreeConnected o.graph
   pub ends : AreEnds o.graph o.r o.t o.u
   pub order : IsEarOrder o.graph o.r o.t o.u o.list

@@ -5,7 +5,7 @@ use Rattle.tomo_base.specs.Sets.{has, any_below, touches, outside, complement}
 use Rattle.tomo_base.specs.Walks.{IsConnectedIn}
 use Rattle.tomo_base.specs.Cuts.{IsThreeConnected}
 use Rattle.tomo_base.specs.Search.{mark_of, entry_at}
-use Rattle.ear_order.specs.Ears.{IsEar, GoesOn, IsLast}
+use Rattle.ear_order.specs.Ears.{IsEar, IsLast, LeavesConnected}
 
 -- v is at one of the places from .. to - 1
 unfoldable pub run : (ℕ → ℕ) → ℕ → ℕ → ℕ → Bool
@@ -37,7 +37,7 @@ abbrev pub border : Network → (ℕ → Bool) → (ℕ → Bool) → ℕ → Bo
 border g R C v = R v && (not (C v) && touches g C v)
 
 -- the part of x among the free nodes: connected, and no link leads out of it to another free node; its nodes stand in some order
-pub record IsPart (g : Network) (free : ℕ → Bool) (x : ℕ) (order : List ℕ) (inside : ℕ → Bool) : Type 0 where
+pub record IsFreePart (g : Network) (free : ℕ → Bool) (x : ℕ) (order : List ℕ) (inside : ℕ → Bool) : Type 0 where
   pub holds : inside x ≡ true
   pub within : (v : ℕ) → inside v ≡ true → free v ≡ true
   pub closed : (v w : ℕ) → inside v ≡ true → linked g v w ≡ true → free w ≡ true → inside w ≡ true
@@ -116,4 +116,4 @@ pub record IsBeyond (g : Network) (before part after : ℕ → Bool) : Type 0 wh
 
 -- after the ear the order goes on, or it is the last
 abbrev pub ContinuesWith : Network → ℕ → (ℕ → Bool) → List ℕ → Type 0
-ContinuesWith g u old ear = GoesOn g u old ear ⊎ IsLast g u old ear
+ContinuesWith g u old ear = LeavesConnected g u old ear ⊎ IsLast g u old ear

@@ -4,7 +4,7 @@ ghost use Rattle.tomo_base.specs.Cuts.{IsThreeConnected};
 ghost use Rattle.tomo_base.specs.Sets.{outside};
 ghost use Rattle.tomo_base.specs.Search.{mark_of, entry_at};
 ghost use Rattle.ear_order.specs.Ears.{IsEar, IsLast};
-ghost use Rattle.ear_order.specs.Turns.{between, HasTwo, IsLeft, AreLeft, IsPart, IsTurn, InSomeTurn, IsBetter, IsSpot, IsEither, Zone, Touches};
+ghost use Rattle.ear_order.specs.Turns.{between, HasTwo, IsLeft, AreLeft, IsTurn, InSomeTurn, IsBetter, IsSpot, IsEither, Zone, Touches, IsFreePart};
 
 use crate::marks::mark;
 use crate::near::{first_near, near};
@@ -212,7 +212,7 @@ pub fn better(
     requires two { HasTwo (mark_of old.now) }
     requires ear { IsEar g.now (mark_of old.now) ear.items }
     requires turn { InSomeTurn g.now (mark_of old.now) ear.items (mark_of part.now.inside.items) }
-    requires order { (free : ℕ → Bool) × (x : ℕ) × IsPart g.now free x part.now.order.items (mark_of part.now.inside.items) }
+    requires order { (free : ℕ → Bool) × (x : ℕ) × IsFreePart g.now free x part.now.order.items (mark_of part.now.inside.items) }
     ensures { IfOk result (λ e. (R C : ℕ → Bool) (u : ℕ) → IsTurn g.now (mark_of old.now) ear.items (mark_of part.now.inside.items) R C u → IsBetter g.now (mark_of old.now) R C e.items) }
 {
     let none = g.nodes();

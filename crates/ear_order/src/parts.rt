@@ -1,7 +1,7 @@
 // Parts of a graph.
 ghost use Rattle.std.specs.Prelude.{◌≡◌, ◌<◌, ℕ, true, length, IfOk};
 ghost use Rattle.tomo_base.specs.Search.{mark_of};
-ghost use Rattle.ear_order.specs.Turns.{IsPart};
+ghost use Rattle.ear_order.specs.Turns.{IsFreePart};
 
 use crate::marks::mark;
 use std::alloc::Global;
@@ -18,7 +18,7 @@ pub struct Part {
 pub fn part_of(alloc: Global, g: &Graph, free: &[bool], x: u32) -> Result<Part, NoMemory>
     requires marks { length free.now ≡ g.now.nodes }
     requires free { mark_of free.now x ≡ true }
-    ensures part { IfOk result (λ p. IsPart g.now (mark_of free.now) x p.order.items (mark_of p.inside.items)) }
+    ensures part { IfOk result (λ p. IsFreePart g.now (mark_of free.now) x p.order.items (mark_of p.inside.items)) }
     ensures marks { IfOk result (λ p. length p.inside.items ≡ g.now.nodes) }
 {
     let found = sweep(alloc, g, free, &[x])?;

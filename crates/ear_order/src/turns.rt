@@ -2,8 +2,8 @@
 ghost use Rattle.std.specs.Prelude.{◌≡◌, ◌<◌, ℕ, true, false, not, ◌&&◌, length, All, IfOk, IfSome, IfNone, OnOk};
 ghost use Rattle.tomo_base.specs.Sets.{has};
 ghost use Rattle.tomo_base.specs.Search.{mark_of};
-ghost use Rattle.ear_order.specs.Ears.{IsEar, GoesOn};
-ghost use Rattle.ear_order.specs.Turns.{between, IsLeft, AreLeft, IsPart, IsBeyond, IsClear, ContinuesWith};
+ghost use Rattle.ear_order.specs.Ears.{IsEar, LeavesConnected};
+ghost use Rattle.ear_order.specs.Turns.{between, IsLeft, AreLeft, IsBeyond, IsClear, ContinuesWith, IsFreePart};
 
 use crate::candidates::{better, candidate, last_ear};
 use crate::marks::{left, mark};
@@ -61,7 +61,7 @@ fn part_left(alloc: Global, g: &Graph, rest: &[bool], ear: &[u32], u: u32) -> Re
     requires marks { length rest.now ≡ g.now.nodes }
     requires left { mark_of rest.now u ≡ true }
     requires off { has ear.now u ≡ false }
-    ensures part { IfOk result (λ p. IsPart g.now (λ v. mark_of rest.now v && not (has ear.now v)) u p.order.items (mark_of p.inside.items)) }
+    ensures part { IfOk result (λ p. IsFreePart g.now (λ v. mark_of rest.now v && not (has ear.now v)) u p.order.items (mark_of p.inside.items)) }
     ensures marks { IfOk result (λ p. length p.inside.items ≡ g.now.nodes) }
 {
     let mut free = rest.to_vec(alloc)?;
@@ -86,7 +86,7 @@ fn bettered(
     requires ear { IsEar g.now (mark_of old.now) first.items }
     requires off { between first.items u ≡ false }
     ensures ear { IfOk result (λ e. IsEar g.now (mark_of old.now) e.items) }
-    ensures goes_on { IfOk result (λ e. GoesOn g.now u (mark_of old.now) e.items) }
+    ensures goes_on { IfOk result (λ e. LeavesConnected g.now u (mark_of old.now) e.items) }
 {
     let _nodes = g.nodes();
     let mut ear = first;

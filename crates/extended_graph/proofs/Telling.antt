@@ -2,7 +2,7 @@
 use Rattle.std.proofs.Common.{◌≡◌, ℕ, suc, ◌+◌, ◌<◌, ◌≤◌, ◌⊎◌, Bool, true, false, not, ◌&&◌, nat_lt, List, [], ◌∷◌, All, IsTrue, refl, sym, ap, subst, inl, inr, arith, lt-ltb}
 use Rattle.std.proofs.lemmas.Bool.{cases_Bool, cases_eq, cases_lt, both_ways, and_parts, and_from, and_left, not_from_false, not-true, false_from_ne_true, ltb-true}
 use Rattle.tomo_base.specs.Network.{Network, linked, IsGraph}
-use Rattle.tomo_base.specs.Sets.{count, has, size, outside, touches, complement}
+use Rattle.tomo_base.specs.Sets.{one_if, count, has, size, outside, touches, complement}
 use Rattle.tomo_base.specs.Walks.{StepsFrom, AllIn, Reaches, IsConnected, everything}
 use Rattle.tomo_base.specs.BadParts.{IsBadPart, NoBadPart}
 use Rattle.tomo_base.specs.Cuts.{extended, IsThreeConnected}
@@ -14,28 +14,25 @@ use Rattle.tomo_base.proofs.Reaching.{reached}
 use Rattle.extended_graph.specs.Laws.{ThreeConnectedByMonitors}
 use Rattle.extended_graph.proofs.HubLinks.{old_linked, hub_linked, linked_cases, extended_below}
 
--- a count up to n + 2
+-- a count up to n + 2 is that up to n, and one more for each of the last two that is in the set
+count-two : (n : ℕ) (q : ℕ → Bool) → count (n + 2) q ≡ count n q + (one_if (q n) + one_if (q (n + 1)))
+unfolding count
+count-two n q =
+    let two : n + 2 ≡ suc (suc n) = omega arith in
+    let one : n + 1 ≡ suc n = omega arith in
+    rw (two, one) (omega arith)
+
+-- where neither is, it is the same
 count-two_more : (n : ℕ) (q : ℕ → Bool) → q n ≡ false → q (n + 1) ≡ false → count (n + 2) q ≡ count n q
-unfolding count
-count-two_more n q a b =
-    let two : n + 2 ≡ suc (suc n) = omega arith in
-    let one : n + 1 ≡ suc n = omega arith in
-    let c : q (suc n) ≡ false = subst (λ z. q z ≡ false) one b in
-    rw (two, c, a) (omega arith)
+count-two_more n q a b = omega (arith, count-two n q, ap one_if a, ap one_if b)
 
--- and no fewer
+-- a count up to n + 2 is no less than that up to n
 count-at_least : (n : ℕ) (q : ℕ → Bool) → count n q ≤ count (n + 2) q
-unfolding count
-count-at_least n q = let two : n + 2 ≡ suc (suc n) = omega arith in rw two (omega arith)
+count-at_least n q = omega (arith, count-two n q)
 
--- where the last two are in the set, two more
+-- where the last two are in the set, it is two more
 count-with_last : (n : ℕ) (q : ℕ → Bool) → q n ≡ true → q (n + 1) ≡ true → count (n + 2) q ≡ count n q + 2
-unfolding count
-count-with_last n q a b =
-    let two : n + 2 ≡ suc (suc n) = omega arith in
-    let one : n + 1 ≡ suc n = omega arith in
-    let c : q (suc n) ≡ true = subst (λ z. q z ≡ true) one b in
-    rw (two, c, a) (omega arith)
+count-with_last n q a b = omega (arith, count-two n q, ap one_if a, ap one_if b)
 
 module _ (g : Network) (m : List ℕ) (graph : IsGraph g) (below : All (λ v. v < g.nodes) m) where
   -- a bad part parts the extended graph

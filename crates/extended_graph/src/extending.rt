@@ -1,5 +1,6 @@
 // The graph with two further nodes.
 ghost use Rattle.std.specs.Prelude.{◌≡◌, ◌<◌, ◌≤◌, ◌+◌, ◌*◌, All, length, IfOk};
+ghost use Rattle.tomo_base.specs.Limits.{graph_link_limit, graph_node_limit};
 ghost use Rattle.tomo_base.specs.Cuts.{extended};
 
 use std::alloc::Global;
@@ -9,8 +10,8 @@ use tomo_base::{Graph, GraphFault, Link, NoMemory, NodeSet};
 /// one and the link to the other. Linear in nodes and links. After Ma, He, Leung, Swami and Towsley (2013).
 pub fn extend(alloc: Global, g: &Graph, m: &NodeSet) -> Result<Graph, NoMemory>
     requires nodes { All (λ v. v < g.now.nodes) m.now }
-    requires few_nodes { g.now.nodes ≤ 9998 }
-    requires few_links { length g.now.links + 2 * length m.now ≤ 20000 }
+    requires few_nodes { g.now.nodes + 2 ≤ graph_node_limit }
+    requires few_links { length g.now.links + 2 * length m.now ≤ graph_link_limit }
     ensures { IfOk result (λ e. e ≡ extended g.now m.now) }
 {
     let n = g.nodes();

@@ -87,7 +87,7 @@ recipe_sum (l ∷ ls) (suc i) (x ∷ d) terms len lt recipe =
     weighted-head gain_of l ls x d terms ∙ (ap₂ (λ u v. x * u + v) here rest ∙ (omega (arith, weighted-head loss_of l ls x d terms)))
 
 -- paths with equal sums have equal weighted sums
-same_weighted : (w : ℤ → ℕ) (f h : List ℕ → ℕ) (terms : List (ℤ × List ℕ)) → All (λ t. f t.1 ≡ h t.1) terms → weighted w f terms ≡ weighted w h terms
+pub same_weighted : (w : ℤ → ℕ) (f h : List ℕ → ℕ) (terms : List (ℤ × List ℕ)) → All (λ t. f t.1 ≡ h t.1) terms → weighted w f terms ≡ weighted w h terms
 unfolding weighted
 same_weighted w f h [] same = refl
 same_weighted w f h (t ∷ ts) same = ap₂ ◌+◌ (ap (λ n. w t.0 * n) (same 0 t (omega arith))) (same_weighted w f h ts (All-tail (λ (t : ℤ × List ℕ). f t.1 ≡ h t.1) t ts same))

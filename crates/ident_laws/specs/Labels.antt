@@ -33,3 +33,9 @@ LabelsGrow = (g : Network) (home grown : ℕ → ℕ → Bool) (k more : ℕ →
 abbrev pub LabelsEnd : Type 0
 LabelsEnd = (g : Network) (home : ℕ → ℕ → Bool) (k : ℕ → Bool) (b v : ℕ) (label : ℕ → ℕ) (p : ℕ → Bool) → AreLabels g home k b label → v < g.nodes → 1 ≤ label v →
     ((u : ℕ) → u < g.nodes → p u ≡ (label u == label v)) → IsHomePocket g home k p
+
+-- labels that grow by one home at a time: their beginning, their growth, and their end with one label for each home pocket
+pub record HomePocketsByLabels : Type 0 where
+  pub begin : LabelsBegin
+  pub grow : LabelsGrow
+  pub end : LabelsEnd

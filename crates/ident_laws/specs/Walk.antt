@@ -43,3 +43,11 @@ WalkHolds = (g : Network) (rank : ℕ → ℕ) (forced barred m : ℕ → Bool) 
 abbrev pub WalkEnds : Type 0
 WalkEnds = (g : Network) (rank : ℕ → ℕ) (forced barred m : ℕ → Bool) (t : ℕ) → ((v : ℕ) → v < g.nodes → t ≤ rank v) →
     IsTriedTo g rank forced barred t m → IsLowestAllowed g (NoBadPart g) rank forced barred m
+
+-- the walk over falling ranks: its beginning, its steps of three kinds, and its end at the lowest set
+pub record LowestByWalk : Type 0 where
+  pub begins : WalkBegins
+  pub passes : WalkPasses
+  pub leaves_out : WalkLeavesOut
+  pub holds : WalkHolds
+  pub ends : WalkEnds

@@ -9,7 +9,8 @@ use Rattle.ear_order.specs.Ears.{IsEar, with_ear, AreEarsAfter}
 use Rattle.ear_order.specs.Turns.{between, ContinuesWith, IsEither}
 use Rattle.ear_order.proofs.Places.{EarAt}
 use Rattle.ear_order.proofs.Lists.{ear_at, has_between, between_has}
-use Rattle.ear_order.proofs.Turned.{tests_agree, reverse_between, entry_reverse}
+use Rattle.ear_order.proofs.Turned.{reverse_between, entry_reverse}
+use Rattle.tomo_base.proofs.Lists.{same_test}
 use Rattle.ear_order.proofs.Spots.{either_ear}
 use Rattle.ear_order.proofs.Ordering.{after}
 use Rattle.indep_trees.specs.Placing.{Sub, In, Distinct, Numbered, StandsBefore, IsWidened}
@@ -85,7 +86,7 @@ append_assoc (x ∷ a) b c = ap (λ z. x ∷ z) (append_assoc a b c)
 
 -- the nodes so far with an ear are those with what is between its ends
 pub with_between : (g : Network) (D : ℕ → Bool) (e : List ℕ) → IsEar g D e → (v : ℕ) → (D v || between e v) ≡ with_ear D e v
-with_between g D e ear v = tests_agree (D v || between e v) (D v || has e v)
+with_between g D e ear v = same_test (D v || between e v) (D v || has e v)
     (λ h. elim (or_cases (D v) (between e v) h) [ inl d ↦ or_left (D v) (has e v) d | inr b ↦ or_right (D v) (has e v) (between_has e v b) ])
     (λ h. elim (or_cases (D v) (has e v) h) [
       | inl d ↦ or_left (D v) (between e v) d

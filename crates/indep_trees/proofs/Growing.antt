@@ -2,6 +2,7 @@
 use Rattle.std.proofs.Common.{◌≡◌, ℕ, zero, suc, ◌+◌, ◌<◌, ◌≤◌, List, [], ◌∷◌, length, All, Bool, true, false, ◌&&◌, ◌==◌, nat_lt, refl, sym, subst, ap, ◌∙◌, arith}
 use Rattle.std.specs.List.{filter}
 use Rattle.std.proofs.lemmas.Bool.{both_ways, or_left, or_right, eq-eqb}
+use Rattle.tomo_base.specs.Limits.{graph_node_limit}
 use Rattle.tomo_base.specs.Network.{Network, linked, any_joins, joins, IsGraph}
 use Rattle.tomo_base.specs.Sets.{has, outside}
 use Rattle.tomo_base.specs.Walks.{IsConnected, everything}
@@ -128,6 +129,6 @@ whole_all g m o h h_is n t u whole v l =
     whole.whole v (omega (arith, l, nodes))
 
 -- the order is not long
-pub order_few : (o : Ears) → IsOrder o → (r t u : ℕ) (order : List ℕ) (low high ear : ℕ → ℕ) (k : ℕ) → Numbered o.graph r t u (in_ears o.list) order low high ear k → length order ≤ 10000
+pub order_few : (o : Ears) → IsOrder o → (r t u : ℕ) (order : List ℕ) (low high ear : ℕ → ℕ) (k : ℕ) → Numbered o.graph r t u (in_ears o.list) order low high ear k → length order ≤ graph_node_limit
 order_few o is r t u order low high ear k numbered =
     omega (arith, is.few, length_below order o.graph.nodes numbered.distinct (λ v s. in_ears_below o.graph.nodes o.list (order_nodes o is) v (numbered.only v s)))

@@ -8,6 +8,7 @@ use Rattle.tomo_base.specs.Search.{entry_at}
 use Rattle.indep_trees.specs.Placing.{In, Distinct}
 use Rattle.indep_trees.specs.Numbers.{spot}
 use Rattle.indep_trees.proofs.Sublists.{split, sub_nil, in_cases, in_filter}
+use Rattle.tomo_base.proofs.Lists.{filter_le}
 
 -- a filter of a list with one node more
 pub filter_push : (p : ℕ → Bool) (l : List ℕ) (x : ℕ) → filter p (l ++ x ∷ []) ≡ filter p l ++ cond (p x) (x ∷ []) []
@@ -97,16 +98,9 @@ number_more n order numbers i next d l on size next_is known v small h =
       ]
     ]
 
--- a filter keeps no more than there is
-pub filter_short : (p : ℕ → Bool) (l : List ℕ) → length (filter p l) ≤ length l
-filter_short p [] = omega arith
-filter_short p (c ∷ l) =
-    let known : length (filter p l) ≤ length l = filter_short p l in
-    split (p c) (length (filter p (c ∷ l)) ≤ length (c ∷ l)) (λ y. rw y (omega (arith, known))) (λ off. rw off (omega (arith, known)))
-
 -- so the next number is below the length
 pub next_small : (n : ℕ) (order : List ℕ) (i : ℕ) → i < length order → length (filter (λ w. nat_lt w n) (take i order)) ≤ i
-next_small n order i l = omega (arith, filter_short (λ w. nat_lt w n) (take i order), length-take i order)
+next_small n order i l = omega (arith, filter_le (λ w. nat_lt w n) (take i order), length-take i order)
 
 -- with one node more
 pub next_more : (n : ℕ) (order : List ℕ) (i next : ℕ) → i < length order → nat_lt (get_or order i 0) n ≡ true → next ≡ length (filter (λ w. nat_lt w n) (take i order)) → next + 1 ≡ length (filter (λ w. nat_lt w n) (take (i + 1) order))

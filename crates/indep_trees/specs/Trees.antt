@@ -35,8 +35,8 @@ pub record Trees : Type 0 where
   pub third : List ℕ
 
 -- the number of a node
-abbrev pub number_in : Trees → ℕ → ℕ
-number_in t v = entry_at t.numbers v
+abbrev pub rank_in : Trees → ℕ → ℕ
+rank_in t v = entry_at t.numbers v
 
 -- the parent of a node in the tree i
 abbrev pub parent_in : Trees → ℕ → ℕ → ℕ
@@ -46,4 +46,4 @@ parent_in t (suc (suc i)) v = entry_at t.third v
 
 -- the trees are independent
 abbrev pub AreTrees : Trees → Type 0
-AreTrees t = AreIndependent t.graph (has t.monitors) (number_in t) (parent_in t)
+AreTrees t = AreIndependent t.graph (has t.monitors) (rank_in t) (parent_in t)

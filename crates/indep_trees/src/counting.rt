@@ -1,6 +1,7 @@
 // Numbers and third parents, from the order of the nodes.
 ghost use Rattle.std.specs.Prelude.{◌≡◌, ◌<◌, ◌≤◌, ℕ, length, All, IfOk, nat_lt, true, false};
 ghost use Rattle.std.specs.List.{filter};
+ghost use Rattle.tomo_base.specs.Limits.{graph_node_limit};
 ghost use Rattle.tomo_base.specs.Network.{linked};
 ghost use Rattle.tomo_base.specs.Sets.{has};
 ghost use Rattle.tomo_base.specs.Search.{entry_at};
@@ -12,7 +13,7 @@ use tomo_base::{Graph, NoMemory, NodeSet};
 
 /// The place of each node among the nodes below n.
 pub fn numbered(alloc: Global, n: u32, order: &[u32]) -> Result<Vec<u32>, NoMemory>
-    requires few { length order.now ≤ 10000 }
+    requires few { length order.now ≤ graph_node_limit }
     requires different { Distinct order.now }
     ensures size { IfOk result (λ numbers. length numbers.items ≡ n) }
     ensures numbers { IfOk result (λ numbers. (v : ℕ) → v < n → In v order.now → entry_at numbers.items v ≡ spot v (filter (λ w. nat_lt w n) order.now)) }

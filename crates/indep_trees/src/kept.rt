@@ -1,9 +1,10 @@
 // Independent trees, and what contracts see of them.
 ghost use Rattle.std.specs.Prelude.{◌≡◌, ◌<◌, ◌≤◌, ◌+◌, ◌*◌, length, All, IfOk};
+ghost use Rattle.tomo_base.specs.Limits.{graph_link_limit, graph_node_limit};
 ghost use Rattle.tomo_base.specs.Sets.{has};
 ghost use Rattle.tomo_base.specs.Walks.{IsConnected};
 ghost use Rattle.tomo_base.specs.Identify.{Identifies};
-ghost use Rattle.indep_trees.specs.Trees.{IsFree, AreTrees, number_in, parent_in};
+ghost use Rattle.indep_trees.specs.Trees.{IsFree, AreTrees, parent_in, rank_in};
 
 use crate::counting::{all_later, numbered};
 use crate::placing::placed;
@@ -53,7 +54,7 @@ impl IndepTrees {
     /// The number of a node, from 0 on; no two nodes have the same. It takes no memory.
     pub fn number(&self, v: u32) -> u32
         requires { v < self.now.graph.nodes }
-        ensures { result ≡ number_in self.now v }
+        ensures { result ≡ rank_in self.now v }
     {
         self.numbers[v as usize]
     }
@@ -66,8 +67,8 @@ impl IndepTrees {
 pub fn trees(alloc: Global, g: &Graph, m: &NodeSet) -> Result<IndepTrees, NoMemory>
     requires connected { IsConnected g.now }
     requires nodes { 3 ≤ g.now.nodes }
-    requires few_nodes { g.now.nodes ≤ 9998 }
-    requires few_links { length g.now.links + 2 * length m.now ≤ 20000 }
+    requires few_nodes { g.now.nodes + 2 ≤ graph_node_limit }
+    requires few_links { length g.now.links + 2 * length m.now ≤ graph_link_limit }
     requires monitors { All (λ v. v < g.now.nodes) m.now }
     requires identifies { Identifies g.now (has m.now) }
     ensures graph { IfOk result (λ t. t.graph ≡ g.now) }

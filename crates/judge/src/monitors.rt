@@ -8,7 +8,7 @@ ghost use Rattle.judge.specs.Verdict.{IsVerdict, TellsExtended};
 use extended_graph::extend;
 use std::alloc::Global;
 use three_conn::{Conn, three_connected};
-use tomo_base::{Graph, NoMemory, NodeSet};
+use tomo_base::{GRAPH_LINK_LIMIT, GRAPH_NODE_LIMIT, Graph, NoMemory, NodeSet};
 use unit_flow::{Fanned, fan};
 
 /// What a set of monitors comes to.
@@ -54,7 +54,9 @@ fn is_seen_whole(alloc: Global, g: &Graph, m: &NodeSet) -> Result<bool, NoMemory
     requires { All (λ v. v < g.now.nodes) m.now }
     ensures { IfOk result (λ whole. IsTrue whole → IsThreeConnected (extended g.now m.now)) }
 {
-    if g.nodes() > 9998 || g.links().len() + 2 * m.as_slice().len() > 20_000 {
+    if g.nodes() > GRAPH_NODE_LIMIT - 2
+        || g.links().len() + 2 * m.as_slice().len() > GRAPH_LINK_LIMIT
+    {
         return Ok(false);
     }
     let wide = extend(alloc, g, m)?;

@@ -3,8 +3,9 @@ use Rattle.std.proofs.Common.{inl, inr, ◌≡◌, ℕ, ◌+◌, ◌-◌, ◌*�
 use Rattle.std.proofs.lemmas.Bool.{eq-eqb, le-ltb, cases_lt, cases_Bool, lt-ltb}
 use Rattle.std.proofs.lemmas.List.{get_or-map, length-map, get_or_default}
 use Rattle.std.proofs.lemmas.List.Elements.{All-head, All-tail, All-map}
+use Rattle.tomo_base.specs.Limits.{delay_limit}
 use Rattle.tomo_base.specs.Network.{Network}
-use Rattle.tomo_base.specs.Identify.{sum_along, delay_limit, IsAssignment}
+use Rattle.tomo_base.specs.Identify.{sum_along, IsAssignment}
 use Rattle.tomo_base.specs.Recipes.{gain_of, loss_of}
 use Rattle.ident_laws.proofs.Recipes.{recipe_sum}
 use Rattle.simple_path.specs.declared.recipe.Term.{Term}

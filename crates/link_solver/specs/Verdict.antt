@@ -1,8 +1,9 @@
 -- What the sums of a round say: twice a link's delay is what its recipe gains less what it loses.
 use Rattle.std.specs.Prelude.{ℕ, ◌≡◌, ◌≢◌, ◌+◌, ◌-◌, ◌*◌, ◌/◌, ◌%◌, ◌<◌, ◌==◌, not, nat_lt, if◌then◌else◌, List, [], map, length, All, Option, Some, None, slice_index_or}
+use Rattle.tomo_base.specs.Limits.{delay_limit}
 use Rattle.tomo_base.specs.Network.{Network}
 use Rattle.tomo_base.specs.Walks.{IsWalk, NoneTwice}
-use Rattle.tomo_base.specs.Identify.{sum_along, delay_limit, IsAssignment}
+use Rattle.tomo_base.specs.Identify.{sum_along, IsAssignment}
 use Rattle.tomo_base.specs.Recipes.{gain_of, loss_of}
 use Rattle.simple_path.specs.declared.recipe.Term.{Term}
 use Rattle.simple_path.specs.Terms.{weighted_by}
@@ -72,10 +73,10 @@ pub record IsFirstPath (g : Network) (paths : List (List ℕ)) (sums d : List �
   pub here : sum_along g d (slice_index_or paths i []) ≢ given sums i
 
 -- the answer, and the delays where there is one assignment
-abbrev pub IsVerdict : Network → List (List ℕ) → List (List Term) → List ℕ → List ℕ → Answer → Type 0
-IsVerdict g paths recipes sums out Solved = AllHaveDelays sums recipes × HasSums g paths sums (halves sums recipes) × (out ≡ halves sums recipes)
-IsVerdict g paths recipes sums out (Link i why) = IsFirstLink sums recipes i why
-IsVerdict g paths recipes sums out (Path i) = AllHaveDelays sums recipes × IsFirstPath g paths sums (halves sums recipes) i
+abbrev pub AnswersRound : Network → List (List ℕ) → List (List Term) → List ℕ → List ℕ → Answer → Type 0
+AnswersRound g paths recipes sums out Solved = AllHaveDelays sums recipes × HasSums g paths sums (halves sums recipes) × (out ≡ halves sums recipes)
+AnswersRound g paths recipes sums out (Link i why) = IsFirstLink sums recipes i why
+AnswersRound g paths recipes sums out (Path i) = AllHaveDelays sums recipes × IsFirstPath g paths sums (halves sums recipes) i
 
 -- an assignment with the given sums, and the only one
 pub record IsOnly (g : Network) (paths : List (List ℕ)) (sums d : List ℕ) : Type 0 where

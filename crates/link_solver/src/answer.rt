@@ -7,7 +7,7 @@ pub enum Why {
     Odd,
     /// It is below zero.
     Negative,
-    /// It is more than twice the largest delay, which is 10^12.
+    /// It is more than twice the largest delay, `DELAY_LIMIT`.
     Large,
 }
 

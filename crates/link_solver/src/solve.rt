@@ -1,10 +1,11 @@
 // The delays of all links, from the sums along the paths of a plan.
 ghost use Rattle.std.specs.Prelude.{◌≡◌, ◌≤◌, ◌<◌, ◌^◌, ◌+◌, ◌-◌, ◌*◌, ◌/◌, ℕ, [], Some, None, length, All, OnOk, IfOk, IfErr, IfSome, IfNone, slice_index_or};
+ghost use Rattle.tomo_base.specs.Limits.{summand_limit};
 ghost use Rattle.tomo_base.specs.Sets.{has};
 ghost use Rattle.tomo_base.specs.Recipes.{gain_of, loss_of};
 ghost use Rattle.plan_form.specs.Good.{AreGoodPaths, AreGoodRecipes};
 ghost use Rattle.link_solver.specs.Verdict as spec;
-ghost use Rattle.link_solver.specs.Verdict.{why_not, halves, AllHaveDelays, HasSums, IsFirstLink, IsFirstPath, IsVerdict, Means, NamesNoPath};
+ghost use Rattle.link_solver.specs.Verdict.{why_not, halves, AllHaveDelays, HasSums, IsFirstLink, IsFirstPath, Means, NamesNoPath, AnswersRound};
 ghost use Rattle.link_solver.specs.declared.answer.Answer.TheVariants.{Solved};
 ghost use Rattle.plan_form.specs.Tied.{AreTied};
 
@@ -12,10 +13,10 @@ use crate::answer::{Answer, Why};
 use crate::delays::Delays;
 use plan_form::Plan;
 use simple_path::{PathPool, Recipes, Term, sum_along};
-use tomo_base::Graph;
+use tomo_base::{DELAY_LIMIT, Graph};
 
-// The largest delay.
-const DELAY_LIMIT: u128 = 1_000_000_000_000;
+// The doubled value of the largest delay.
+const DOUBLED_LIMIT: u128 = 2 * DELAY_LIMIT as u128;
 
 // The doubled value of a link: what its recipe gains, less what it loses.
 #[derive(Clone, Copy)]
@@ -73,7 +74,7 @@ fn delay_of(value: Balance) -> Result<u64, Why>
         return Err(Why::Negative);
     }
     let twice = value.gain - value.loss;
-    if twice > 2 * DELAY_LIMIT {
+    if twice > DOUBLED_LIMIT {
         return Err(Why::Large);
     }
     Ok((twice / 2) as u64)
@@ -102,7 +103,7 @@ fn first_other(g: &Graph, paths: &PathPool, sums: &[u64], delays: &[u64]) -> Opt
     requires paths { (i : ℕ) → i < length paths.now → spec.IsPath g.now (slice_index_or paths.now i []) }
     requires sums { length sums.now ≡ length paths.now }
     requires one_each { length delays.now ≡ length g.now.links }
-    requires small { All (λ d. d ≤ 10 ^ 15) delays.now }
+    requires small { All (λ d. d ≤ summand_limit) delays.now }
     ensures found { IfSome result (λ i. IsFirstPath g.now paths.now sums.now delays.now i) }
     ensures none { IfNone result (HasSums g.now paths.now sums.now delays.now) }
 {
@@ -127,7 +128,7 @@ pub fn solve_into(g: &Graph, p: &Plan, sums: &[u64], out: &mut Delays) -> Answer
     requires recipes { AreGoodRecipes g.now p.now.paths p.now.recipes }
     requires sums { length sums.now ≡ length p.now.paths }
     requires one_each { length out.old ≡ length g.now.links }
-    ensures verdict { IsVerdict g.now p.now.paths p.now.recipes sums.now out.new result }
+    ensures verdict { AnswersRound g.now p.now.paths p.now.recipes sums.now out.new result }
     ensures means { Means g.now p.now.paths sums.now out.new result }
     ensures no_path { AreTied g.now.links p.now.paths p.now.recipes → NamesNoPath result }
     ensures solved { AreTied g.now.links p.now.paths p.now.recipes → AllHaveDelays sums.now p.now.recipes → result ≡ Solved }

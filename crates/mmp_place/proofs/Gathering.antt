@@ -102,7 +102,11 @@ fills_none g m = record {
   filled = λ v. refl;
 }
 
--- a block of fewer than three nodes has no three-block
+-- a set of fewer than three nodes has no three-block
+pub no_three_block : (g : Network) (b : List ℕ) (t : ℕ → Bool) → IsSetBelow g.nodes b → length b < 3 → IsThreeBlockOf g (has b) t → ⊥
+no_three_block g b t is small here = omega (arith, small, here.four, count-mono g.nodes t (has b) here.inside, count-has g.nodes b is.ascending is.below)
+
+-- such a block adds no three-block
 pub fills_past : (g : Network) (blocks : List (List ℕ)) (b : List ℕ) (m w : ℕ → Bool) → IsSetBelow g.nodes b → length b < 3 → FillsThreeBlocks g blocks m w → FillsThreeBlocks g (blocks ++ b ∷ []) m w
 fills_past g blocks b m w is small old = record {
   sets = old.sets;
@@ -110,8 +114,7 @@ fills_past g blocks b m w is small old = record {
   each = old.each;
   every = λ c con t of. elim (Contains-push_cases blocks b c con) [
     | inl earlier ↦ old.every c earlier t of
-    | inr same ↦ absurd (let here : IsThreeBlockOf g (has b) t = subst (λ z. IsThreeBlockOf g (has z) t) (sym same) of in
-        omega (arith, small, here.four, count-mono g.nodes t (has b) here.inside, count-has g.nodes b is.ascending is.below))
+    | inr same ↦ absurd (no_three_block g b t is small (subst (λ z. IsThreeBlockOf g (has z) t) (sym same) of))
   ];
   filled = old.filled;
 }

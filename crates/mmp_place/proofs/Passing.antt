@@ -9,7 +9,7 @@ use Rattle.tomo_base.specs.Parting.{IsJoinedIn, IsJoinedWithoutTwo}
 use Rattle.tomo_base.proofs.Parting.{without-from, without-parts, without_two-in, without_two-from, without_two-ne, minus-in, minus-out, flip, closed-rest}
 use Rattle.tomo_base.proofs.Picks.{without-off, pick3, two-at-most, four-count}
 use Rattle.tomo_base.proofs.Reaching.{is_node, is_node_below, is_node-from, joined-or, nodes_in}
-use Rattle.blocks.proofs.CutSets.{BlockLike}
+use Rattle.blocks.specs.Cutting.{BlockLike}
 use Rattle.blocks.proofs.Cutting.{block-over}
 use Rattle.blocks.proofs.Working.{block-to}
 use Rattle.blocks.proofs.Unparted.{unparted-block, unparted-graph}

@@ -10,7 +10,6 @@ ghost use Rattle.mmp_place.specs.Rule.{narrow, filled_each, IsPlacedByRule};
 ghost use Rattle.mmp_place.specs.Steps.{FillsThreeBlocks, large};
 
 use crate::filling::{fill, fill_each};
-use crate::laws::placed_is_lowest;
 use blocks::blocks;
 use split_tree::{split, three_blocks};
 use std::alloc::Global;
@@ -105,7 +104,6 @@ pub fn mmp(alloc: Global, g: &Graph) -> Result<NodeSet, NoMemory>
     ensures nodes { IfOk result (λ m. All (λ v. v < g.now.nodes) m) }
     ensures ascending { IfOk result (λ m. IsStrictlyIncreasing m) }
 {
-    placed_is_lowest();
     let _nodes = g.nodes();
     let parts = blocks(alloc, g)?;
     let all = all_nodes(alloc, g)?;

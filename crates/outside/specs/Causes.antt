@@ -2,9 +2,9 @@
 use Rattle.std.specs.Prelude.{ℕ, ◌+◌, ◌-◌, ◌^◌, ◌≤◌, min}
 
 -- one more than a count, which has 64 bits and stays at its last value
-abbrev pub counted : ℕ → ℕ
-counted n = min (n + 1) (2 ^ 64 - 1)
+abbrev pub next_count : ℕ → ℕ
+next_count n = min (n + 1) (2 ^ 64 - 1)
 
 -- the count is greater after the call, or stands at its last value
 abbrev pub Rose : ℕ → ℕ → Type 0
-Rose before now = counted before ≤ now
+Rose before now = next_count before ≤ now

@@ -2,7 +2,7 @@
 -- counts.
 use Rattle.std.specs.Prelude.{ℕ, ◌≡◌, ◌<◌, ◌≤◌, ◌⊎◌, ◌++◌, List, [], ◌∷◌, length, Option, Result, Ok, Err, IfSome}
 use Rattle.std.specs.Io.KnownBytes.{Consumes}
-use Rattle.outside.specs.Causes.{counted}
+use Rattle.outside.specs.Causes.{next_count}
 use Rattle.outside.specs.declared.shelf.Got.{Got}
 use Rattle.outside.specs.declared.shelf.Got.TheVariants.{Whole, TooLong}
 use Rattle.outside.specs.declared.shelf.ShelfFault.{ShelfFault}
@@ -18,13 +18,13 @@ pub record FileReads : Type 0 where
 -- come before that
 abbrev pub IsAfterRead : FileReads → FileReads → List ℕ → Result Got ShelfFault → Type 0
 IsAfterRead old new name (Ok got) = new ≡ record old { asked = old.asked ++ name ∷ [] }
-IsAfterRead old new name (Err Failed) = new ≡ record { asked = old.asked ++ name ∷ []; faults = counted old.faults }
+IsAfterRead old new name (Err Failed) = new ≡ record { asked = old.asked ++ name ∷ []; faults = next_count old.faults }
 IsAfterRead old new name (Err NoMemory) = (new ≡ record old { asked = old.asked ++ name ∷ [] }) ⊎ (new ≡ old)
 
 -- the count of faults of standard output after a write with this answer
 abbrev pub faults_after : ℕ → Result ℕ SinkFault → ℕ
 faults_after faults (Ok k) = faults
-faults_after faults (Err e) = counted faults
+faults_after faults (Err e) = next_count faults
 
 -- the whole of what a reader has left, where it tells that, or nothing where that is longer than
 -- the limit or can't be had

@@ -4,7 +4,7 @@ use Rattle.std.specs.Prelude.{Some, None, Result, Ok, Err, IsSomeAnd, refl}
 use Rattle.std.specs.List.{list_any}
 use Rattle.std.specs.Coded.{Coded, code_by, coded×, coded_ℕ, coded_list}
 use Rattle.std.specs.FinMap.{code, get}
-use Rattle.outside.specs.Causes.{counted}
+use Rattle.outside.specs.Causes.{next_count}
 use Rattle.outside.specs.Shelf.{Files}
 use Rattle.outside.specs.declared.shelf.Got.{Got}
 use Rattle.outside.specs.declared.shelf.Got.TheVariants.{Whole, TooLong}
@@ -46,13 +46,13 @@ abbrev pub none_set : List ℕ → Bool
 none_set [] = true
 none_set (n ∷ ns) = false
 
--- the call with this number, counted from 1, is set to fail
+-- the call with this number, next_count from 1, is set to fail
 abbrev pub is_set : List ℕ → ℕ → Bool
 is_set failing call = list_any (λ n. n == call) failing
 
 -- the next read is set to fail
 abbrev pub read_is_set : MemoryFiles → Bool
-read_is_set shelf = is_set shelf.failing (counted shelf.reads)
+read_is_set shelf = is_set shelf.failing (next_count shelf.reads)
 
 -- what a read answers: the content, or that it is longer than the limit, or a failure where the
 -- read is set to fail or the name isn't known
@@ -68,9 +68,9 @@ AnswersRead shelf name limit (Err NoMemory) out = out ≡ []
 -- the shelf after a read with this answer; where memory was wanted it is as it was
 abbrev pub after_read : MemoryFiles → List ℕ → Result Got ShelfFault → MemoryFiles
 after_read shelf name (Ok got) =
-    record shelf { asked = shelf.asked ++ name ∷ []; reads = counted shelf.reads }
+    record shelf { asked = shelf.asked ++ name ∷ []; reads = next_count shelf.reads }
 after_read shelf name (Err Failed) =
-    record shelf { asked = shelf.asked ++ name ∷ []; reads = counted shelf.reads; faults = counted shelf.faults }
+    record shelf { asked = shelf.asked ++ name ∷ []; reads = next_count shelf.reads; faults = next_count shelf.faults }
 after_read shelf name (Err NoMemory) = shelf
 
 -- of how many bytes a sink is sure: those of the room left, where no write is set to fail
@@ -79,7 +79,7 @@ sure_room sink = if none_set sink.failing then sink.room else 0
 
 -- the next write is set to fail
 abbrev pub write_is_set : MemoryBytes → Bool
-write_is_set sink = is_set sink.failing (counted sink.writes)
+write_is_set sink = is_set sink.failing (next_count sink.writes)
 
 -- what a write answers: it takes as many bytes as it can, and fails where it is set to fail or no
 -- room is left
@@ -91,6 +91,6 @@ AnswersWrite sink bytes (Err e) = (write_is_set sink ≡ true) ⊎ (sink.room �
 -- the sink after a write with this answer
 abbrev pub after_write : MemoryBytes → List ℕ → Result ℕ SinkFault → MemoryBytes
 after_write sink bytes (Ok k) =
-    record sink { taken = sink.taken ++ take k bytes; room = sink.room - k; writes = counted sink.writes }
+    record sink { taken = sink.taken ++ take k bytes; room = sink.room - k; writes = next_count sink.writes }
 after_write sink bytes (Err e) =
-    record sink { writes = counted sink.writes; faults = counted sink.faults }
+    record sink { writes = next_count sink.writes; faults = next_count sink.faults }

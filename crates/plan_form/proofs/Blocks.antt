@@ -14,7 +14,7 @@ use Rattle.plan_form.proofs.Walking.{picked, picked-append, counted-append, coun
 -- rows of one kind, numbered from i
 abbrev pub Block : ℕ → Kind → ℕ → List Row → Type 0
 Block format k i [] = Unit {0}
-Block format k i (row ∷ rows) = (kind_of format row ≡ Some k) × IsRow format k i row × Block format k (i + 1) rows
+Block format k i (row ∷ rows) = (kind_of format row ≡ Some k) × IsRow k i row × Block format k (i + 1) rows
 
 -- they are of no other kind
 counted_block : (format : ℕ) (j k : Kind) (i : ℕ) (rows : List Row) → (place j == place k) ≡ false → Block format j i rows → counted format k rows ≡ 0
@@ -55,7 +55,7 @@ block_next format k last before (row ∷ rows) i some is le count open_yet lone 
     kind = k;
     is_of = record { open_yet = open_yet (omega arith); is_kind = block.0 };
     in_order = rw is (and_from _ _ (lt-ltb 0 (place k) some) (le-leb (place last) (place k) le));
-    is_row = subst (λ n. IsRow format k n row) (sym count) block.1;
+    is_row = subst (λ n. IsRow k n row) (sym count) block.1;
   },
   block_next format k k (before ++ row ∷ []) rows (i + 1) some (last_kind-push format before row ∙ block.0) (omega arith)
       (counted-push format k k before row block.0 ∙ rw (count, eq-eqb (place k) (place k) refl) refl)
@@ -98,8 +98,8 @@ front_block format d k before rows some le lone f block =
     }
 
 -- the plan row alone
-first_front : (format : ℕ) (first : Row) → kind_of format first ≡ Some kinds.Plan → IsRow format kinds.Plan 0 first → Front format 1 (first ∷ [])
-unfolding counted last_kind IsRow
+first_front : (format : ℕ) (first : Row) → kind_of format first ≡ Some kinds.Plan → IsRow kinds.Plan 0 first → Front format 1 (first ∷ [])
+unfolding counted last_kind
 first_front format first is row = record {
   last = kinds.Plan;
   last_is = is;

@@ -11,10 +11,11 @@ use Rattle.tomo_base.specs.Network.{Network}
 use Rattle.tomo_base.specs.Identify.{IsMonitorPath}
 use Rattle.simple_path.specs.Terms.{path_terms, weighted_by}
 use Rattle.plan_form.specs.Building.{turned, sum_at, renumbered, IsMerged, IsRewritten, IsBuilt}
-use Rattle.plan_form.specs.Buildable.{IsShort, IsBuildable}
+use Rattle.plan_form.specs.Buildable.{IsShort, IsArrangeable}
 use Rattle.plan_form.specs.Good.{EndsAscend, AreGoodPaths, IsGoodRecipe}
 use Rattle.plan_form.specs.Order.{path_cmp}
-use Rattle.plan_form.specs.Steps.{lists_of, number_in, AreNumbers, AreOrdered}
+use Rattle.plan_form.specs.Steps.{number_in, AreNumbers, AreOrdered}
+use Rattle.tomo_base.specs.SetLists.{lists_of}
 use Rattle.plan_form.proofs.Tallies.{sum_at-others, sum_at-place}
 use Rattle.plan_form.proofs.Merging.{merged_weight}
 use Rattle.plan_form.proofs.Turning.{uses_turned, path_turned, turned_ascends}
@@ -80,14 +81,14 @@ is_rewritten pool paths numbers old new are names merged = record {
 }
 
 -- few and small coefficients are left
-pub rewritten_short : (g : Network) (m : ℕ → Bool) (pool : List (List ℕ)) (recipes : List (List Term)) (paths : List (List ℕ)) (numbers : List ℕ) → IsBuildable g m pool recipes → AreOrdered pool paths numbers
+pub rewritten_short : (pool : List (List ℕ)) (recipes : List (List Term)) (paths : List (List ℕ)) (numbers : List ℕ) → IsArrangeable pool recipes → AreOrdered pool paths numbers
     → (i : ℕ) (new : List Term) → i < length recipes → IsMerged (renumbered (number_in numbers) (get_or recipes i [])) new → IsShort new
-rewritten_short g m pool recipes paths numbers can are i new l merged = can.short paths i new are.ascending l (is_rewritten pool paths numbers (get_or recipes i []) new are.numbered (can.names i l) merged)
+rewritten_short pool recipes paths numbers can are i new l merged = can.short paths i new are.ascending l (is_rewritten pool paths numbers (get_or recipes i []) new are.numbered (can.names i l) merged)
 
 -- the paths and recipes are built as the plan's definition says
-pub built : (g : Network) (m : ℕ → Bool) (pool : List (List ℕ)) (old : List (List Term)) (paths : List (List ℕ)) (numbers : List ℕ) (new : List (List Term)) → IsBuildable g m pool old → AreOrdered pool paths numbers → length new ≡ length old
+pub built : (pool : List (List ℕ)) (old : List (List Term)) (paths : List (List ℕ)) (numbers : List ℕ) (new : List (List Term)) → IsArrangeable pool old → AreOrdered pool paths numbers → length new ≡ length old
     → ((i : ℕ) → i < length old → IsMerged (renumbered (number_in numbers) (get_or old i [])) (get_or new i [])) → IsBuilt pool old paths new
-built g m pool old paths numbers new can are one_each merged = record {
+built pool old paths numbers new can are one_each merged = record {
   ascending = are.ascending;
   members = λ q. (are.given q, are.kept q);
   one_each = one_each;
@@ -95,15 +96,15 @@ built g m pool old paths numbers new can are one_each merged = record {
 }
 
 -- the paths are good
-pub good_paths : (g : Network) (m : ℕ → Bool) (pool : List (List ℕ)) (old : List (List Term)) (paths : List (List ℕ)) (numbers : List ℕ) → IsBuildable g m pool old → AreOrdered pool paths numbers → AreGoodPaths g m paths
-good_paths g m pool old paths numbers can are = record {
-  each = all (IsMonitorPath g m) (λ k d l. path_turned g m (get_or pool k d) (can.paths k d l));
-  turned = all EndsAscend (λ k d l. turned_ascends g m (get_or pool k d) (can.paths k d l));
+pub good_paths : (g : Network) (m : ℕ → Bool) (pool : List (List ℕ)) (old : List (List Term)) (paths : List (List ℕ)) (new : List (List Term)) → All (IsMonitorPath g m) pool → IsBuilt pool old paths new → AreGoodPaths g m paths
+good_paths g m pool old paths new monitored are = record {
+  each = all (IsMonitorPath g m) (λ k d l. path_turned g m (get_or pool k d) (monitored k d l));
+  turned = all EndsAscend (λ k d l. turned_ascends g m (get_or pool k d) (monitored k d l));
   ascending = are.ascending;
 }
   where
     all : (P : List ℕ → Type 0) → All (λ p. P (turned p)) pool → All P paths
-    all P each k d l = All-contains P (map turned pool) (get_or paths k d) (All-map P turned pool each) (are.given (get_or paths k d) (All-contains_itself paths k d l))
+    all P each k d l = All-contains P (map turned pool) (get_or paths k d) (All-map P turned pool each) ((are.members (get_or paths k d)).0 (All-contains_itself paths k d l))
 
 -- merged terms have no other path than the terms they are merged of
 merged_within : (n : ℕ) (old new : List Term) → IsMerged old new → All (λ t. t.path < n) old → All (λ t. t.path < n) new

@@ -1,10 +1,10 @@
 -- The nodes of paths are no more than the bytes of their rows.
-use Rattle.std.proofs.Common.{ℕ, ◌+◌, ◌≤◌, List, [], ◌∷◌, length, arith, length-append, All}
+use Rattle.std.proofs.Common.{◌≡◌, ℕ, ◌+◌, ◌<◌, ◌≤◌, ◌^◌, List, [], ◌∷◌, length, arith, length-append, All}
 use Rattle.std.specs.Fmt.{decimal}
 use Rattle.std.proofs.lemmas.Fmt.{decimal_nonempty}
 use Rattle.std.proofs.lemmas.List.Elements.{All-head, All-tail}
 use Rattle.std.proofs.lemmas.List.Sums.{sum_by-cons}
-use Rattle.rows.specs.Rows.{row_bytes, byte_count}
+use Rattle.rows.specs.Rows.{Row, row_bytes, byte_count}
 use Rattle.simple_path.specs.Pools.{nodes_in}
 use Rattle.plan_form.specs.Parts.{IsSmall, IsNodeList}
 use Rattle.plan_form.specs.PlanRows.{path_row, numbered}
@@ -27,3 +27,12 @@ unfolding numbered
 path_rows_hold i [] fit = omega arith
 path_rows_hold i (p ∷ ps) fit =
     omega (arith, sum_by-cons row_bytes (path_row i p) (numbered path_row (i + 1) ps), path_row_holds i p (All-head IsNodeList p ps fit), path_rows_hold (i + 1) ps (All-tail IsNodeList p ps fit))
+
+-- where the rows of paths and the row of one more have few bytes, there is room for the path
+pub path_room : (row : Row) (i : ℕ) (paths : List (List ℕ)) (nodes : List ℕ) → All IsNodeList paths → IsNodeList nodes → row ≡ path_row i nodes → byte_count (numbered path_row 0 paths) + row_bytes row < 2 ^ 31
+    → (length paths + 1 < 2 ^ 31) × (nodes_in paths + length nodes < 2 ^ 31)
+path_room row i paths nodes all one is few =
+    let bytes = rw is at few in
+    let held = path_rows_hold 0 paths all in
+    let here = path_row_holds i nodes one in
+    (omega (arith, held, here, bytes), omega (arith, held, here, bytes))

@@ -5,7 +5,7 @@ use Rattle.std.proofs.lemmas.List.{take_more, map-append}
 use Rattle.std.proofs.lemmas.Option.{slice_get_within, get_or_from_slice_get}
 use Rattle.simple_path.specs.Pools.{nodes_in}
 use Rattle.simple_path.proofs.Pools.{nodes_in-push, nodes_in-take}
-use Rattle.plan_form.specs.Steps.{lists_of}
+use Rattle.tomo_base.specs.SetLists.{lists_of}
 
 -- the first items, and the next one that was read
 pub take_read : {X : Type 0} (xs : List X) (i : ℕ) (x : X) → slice_get xs i ≡ Some x → take (i + 1) xs ≡ take i xs ++ x ∷ []

@@ -11,12 +11,11 @@ use Rattle.tomo_base.proofs.Links.{linked_below}
 use Rattle.topology.specs.Topology.{Topo, IsTopology}
 use Rattle.simple_path.specs.declared.recipe.Term.{Term}
 use Rattle.plan_form.specs.declared.plan.HeldPocket.{HeldPocket}
-use Rattle.plan_form.specs.Building.{renumbered, IsMerged, IsBuilt}
-use Rattle.plan_form.specs.Buildable.{IsBuildable, IsShort, as_part}
+use Rattle.plan_form.specs.Building.{IsBuilt}
+use Rattle.plan_form.specs.Buildable.{IsArrangeable, IsBuildable, IsShort, as_part}
 use Rattle.plan_form.specs.Held.{part_of}
-use Rattle.plan_form.specs.Steps.{number_in, AreOrdered}
 use Rattle.plan_form.specs.Parts.{PlanPocket, IsSmall, IsNodeList, IsTermList, IsName, IsSmallLink, IsSmallPocket, IsWellFormed}
-use Rattle.plan_form.proofs.Built.{rewritten_within, built, good_paths}
+use Rattle.plan_form.proofs.Built.{rewritten_within, good_paths}
 
 -- the names of a topology
 pub names_formed : (t : Topo) → IsTopology t → All IsName t.names
@@ -57,29 +56,25 @@ paths_formed t m paths is each k d l =
     (omega (arith, path.two), λ j e n. omega (arith, nodes_below t.graph m (get_or paths k d) is.graph path j e n, is.few_nodes))
 
 -- recipes
-pub recipes_formed : (g : Network) (m : ℕ → Bool) (pool : List (List ℕ)) (old : List (List Term)) (paths : List (List ℕ)) (new : List (List Term)) → IsBuildable g m pool old → IsBuilt pool old paths new → length paths < 2 ^ 31 → All IsTermList new
-recipes_formed g m pool old paths new can built few i d l =
+pub recipes_formed : (pool : List (List ℕ)) (old : List (List Term)) (paths : List (List ℕ)) (new : List (List Term)) → IsArrangeable pool old → IsBuilt pool old paths new → length paths < 2 ^ 31 → All IsTermList new
+recipes_formed pool old paths new can built few i d l =
     let within : i < length old = omega (arith, l, built.one_each) in
     let short : IsShort (get_or new i []) = can.short paths i (get_or new i []) built.ascending within (built.recipes i within) in
     let names : All (λ (t : Term). t.path < length paths) (get_or new i []) = rewritten_within pool paths (get_or old i []) (get_or new i []) (built.recipes i within) in
     rw (get_or_default new i d [] l) (short.0, short.1, λ k e n. (short.2 k e n, omega (arith, names k e n, few)))
 
 -- so what is made of all parts can be spelled
-pub made_formed : (t : Topo) (m : ℕ → Bool) (pool : List (List ℕ)) (old : List (List Term)) (given : List Pocket) (names : List (List ℕ)) (links : List Link) (monitors : List ℕ) (held : List HeldPocket) (paths : List (List ℕ)) (numbers : List ℕ)
-    (new : List (List Term)) → IsTopology t → IsBuildable t.graph m pool old → names ≡ t.names → links ≡ t.graph.links → All IsSmall monitors → All (λ k. 0 < length k.nodes) given → map part_of held ≡ map as_part given
-    → All (λ k. IsSmall k.need × All IsSmall k.nodes.items) held → length held < 2 ^ 32 → AreOrdered pool paths numbers → length paths < 2 ^ 31 → length new ≡ length old → length new < 2 ^ 32
-    → ((i : ℕ) → i < length old → IsMerged (renumbered (number_in numbers) (get_or old i [])) (get_or new i []))
-    → IsWellFormed (record { names = names; links = links; monitors = monitors; pockets = map part_of held; paths = paths; recipes = new })
-made_formed t m pool old given names links monitors held paths numbers new is can same_names same_links small filled same parts few_pockets ordered few_paths one_each few_recipes merged = record {
-  names = rw same_names (names_formed t is);
-  links = rw same_links (links_formed t is);
-  monitors = small;
-  pockets = pockets_formed held given parts same filled;
-  paths = paths_formed t m paths is (good_paths t.graph m pool old paths numbers can ordered).each;
-  recipes = recipes_formed t.graph m pool old paths new can (built t.graph m pool old paths numbers new can ordered one_each merged) few_paths;
-  few_names = rw same_names (omega (arith, is.one_each, is.few_nodes));
-  few_links = rw same_links (omega (arith, is.few_links));
-  few_pockets = rw length-map few_pockets;
-  few_paths = few_paths;
-  few_recipes = few_recipes;
+pub made_formed : (t : Topo) (m : ℕ → Bool) (pool : List (List ℕ)) (old : List (List Term)) (given : List Pocket) (names : List (List ℕ)) (links : List Link) (forced barred monitors : List ℕ) (held : List HeldPocket) (paths : List (List ℕ))
+    (new : List (List Term)) → IsTopology t → IsBuildable t.graph m pool old → names ≡ t.names → links ≡ t.graph.links → All IsSmall forced → All IsSmall barred → All IsSmall monitors → All (λ k. 0 < length k.nodes) given
+    → map part_of held ≡ map as_part given → All (λ k. IsSmall k.need × All IsSmall k.nodes.items) held → length held < 2 ^ 32 → IsBuilt pool old paths new → length paths < 2 ^ 31 → length new < 2 ^ 32
+    → IsWellFormed (record { names = names; links = links; forced = forced; barred = barred; monitors = monitors; pockets = map part_of held; paths = paths; recipes = new })
+made_formed t m pool old given names links forced barred monitors held paths new is can same_names same_links small_forced small_barred small_monitors filled same parts few_pockets built few_paths few_recipes = record {
+  names = rw same_names (record { each = names_formed t is; few = omega (arith, is.one_each, is.few_nodes) });
+  links = rw same_links (record { each = links_formed t is; few = omega (arith, is.few_links) });
+  forced = small_forced;
+  barred = small_barred;
+  monitors = small_monitors;
+  pockets = record { each = pockets_formed held given parts same filled; few = rw length-map few_pockets };
+  paths = record { each = paths_formed t m paths is (good_paths t.graph m pool old paths new can.paths built).each; few = few_paths };
+  recipes = record { each = recipes_formed pool old paths new can.arranges built few_paths; few = few_recipes };
 }

@@ -4,6 +4,7 @@ pub mod Sorting
 pub mod Turning
 pub mod Merging
 pub mod Tallies
+pub mod Merged
 pub mod Built
 pub mod Formed
 pub mod Copying
@@ -12,6 +13,7 @@ pub mod Cutting
 pub mod Joined
 pub mod Texts
 pub mod Items
+pub mod Telling
 pub mod Walking
 pub mod Ordered
 pub mod Blocks

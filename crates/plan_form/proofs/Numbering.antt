@@ -1,8 +1,8 @@
 -- Rows with their numbers, one row more at a time.
 use Rattle.std.proofs.Common.{◌≡◌, ◌∙◌, ℕ, suc, ◌+◌, ◌<◌, ◌≤◌, List, [], ◌∷◌, ◌++◌, map, length, take, get_or, refl, sym, ap, arith, append_assoc, length-append}
-use Rattle.std.proofs.lemmas.List.{take_more, length-take-le, take_all, append-nil, length-map}
+use Rattle.std.proofs.lemmas.List.{take_more, length-take-le, take_all, append-nil}
 use Rattle.rows.specs.Rows.{Row, RowList}
-use Rattle.plan_form.specs.PlanRows.{numbered, AddsRows, plan_rows, row_count}
+use Rattle.plan_form.specs.PlanRows.{numbered, AddsRows, AreRowsOf, rows_in, row_count}
 use Rattle.plan_form.specs.Parts.{PlanParts}
 
 -- a row more at the end has the next number
@@ -18,12 +18,6 @@ pub length-numbered : {A : Type 0} (f : ℕ → A → Row) (i : ℕ) (xs : List 
 unfolding numbered
 length-numbered f i [] = refl
 length-numbered f i (x ∷ xs) = omega (arith, length-numbered f (i + 1) xs)
-
--- rows that have no number
-pub map-numbered : {A : Type 0} (f : A → Row) (i : ℕ) (xs : List A) → numbered (λ _ x. f x) i xs ≡ map f xs
-unfolding numbered
-map-numbered f i [] = refl
-map-numbered f i (x ∷ xs) = ap (λ rs. f x ∷ rs) (map-numbered f (i + 1) xs)
 
 -- the rows of the first i items were added
 pub record Added {A : Type 0} (f : ℕ → A → Row) (xs : List A) (old : RowList) (i : ℕ) (now : RowList) : Type 0 where
@@ -51,17 +45,21 @@ added_more f xs old now new i d l added adds =
 pub added_all : {A : Type 0} (f : ℕ → A → Row) (xs : List A) (old : RowList) (i : ℕ) (now : RowList) → length xs ≤ i → Added f xs old i now → AddsRows old now (numbered f 0 xs)
 added_all f xs old i now l added = (added.closed ∙ ap (λ ys. old.closed ++ numbered f 0 ys) (take_all i xs l), added.current)
 
--- rows that were added in turn are the rows of the whole
-pub added_in_turn : (r₀ r₁ r₂ r₃ r₄ r₅ r₆ r₇ r₈ : RowList) (first last : Row) (names links monitors pockets paths recipes : List Row) → r₀ ≡ record { closed = []; current = [] }
-    → AddsRows r₀ r₁ (first ∷ []) → AddsRows r₁ r₂ names → AddsRows r₂ r₃ links → AddsRows r₃ r₄ monitors → AddsRows r₄ r₅ pockets → AddsRows r₅ r₆ paths → AddsRows r₆ r₇ recipes → AddsRows r₇ r₈ (last ∷ [])
-    → r₈ ≡ record { closed = first ∷ names ++ (links ++ (monitors ++ (pockets ++ (paths ++ (recipes ++ last ∷ []))))); current = [] }
-added_in_turn r₀ r₁ r₂ r₃ r₄ r₅ r₆ r₇ r₈ first last names links monitors pockets paths recipes none a b c d e f g h =
-    let start : r₀.closed ≡ [] = ap (λ (r : RowList). r.closed) none in
-    let closed : r₈.closed ≡ first ∷ names ++ (links ++ (monitors ++ (pockets ++ (paths ++ (recipes ++ last ∷ []))))) =
-    rw (h.0, g.0, f.0, e.0, d.0, c.0, b.0, a.0, start) (simp append_assoc) in
-    λ i. record { closed = closed i; current = h.1 i }
+-- rows that were added after rows
+pub added_both : (r s t : RowList) (xs ys : List Row) → AddsRows r s xs → AddsRows s t ys → AddsRows r t (xs ++ ys)
+added_both r s t xs ys first second = (second.0 ∙ (ap (λ rs. rs ++ ys) first.0 ∙ append_assoc r.closed xs ys), second.1)
 
--- the rows of a plan are as many as it has parts, and two more
-pub length-plan_rows : (p : PlanParts) → length (plan_rows p) ≡ row_count p
-length-plan_rows p =
-    simp (length-append, length-numbered, length-map) (omega arith)
+-- rows that were added to none are all
+pub added_first : (r s : RowList) (rows : List Row) → r ≡ record { closed = []; current = [] } → AddsRows r s rows → s ≡ record { closed = rows; current = [] }
+added_first r s rows none added =
+    let closed : s.closed ≡ rows = added.0 ∙ ap (λ (l : RowList). l.closed ++ rows) none in
+    λ i. record { closed = closed i; current = added.1 i }
+
+-- the rows of a plan, in whatever format, are as many as it has parts, and two more
+pub length-rows_in : (format : ℕ) (p : PlanParts) → length (rows_in format p) ≡ row_count p
+length-rows_in format p =
+    simp (length-append, length-numbered) (omega arith)
+
+-- so many rows are those of the plan
+pub length-AreRowsOf : (rows : List Row) (p : PlanParts) → AreRowsOf rows p → length rows ≡ row_count p
+length-AreRowsOf rows p are = ap (length {A = Row}) are.rows_are ∙ length-rows_in are.format p

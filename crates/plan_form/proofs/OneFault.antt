@@ -40,7 +40,7 @@ not_later format before row Misplaced Misnumbered l hv hw =
     both_ways (is_in_order format before hw.0) (subst (λ k. is_in_order format before k ≡ false) (same_kind (kind_of format row) hv.0 hw.0 hv.1.is_kind hw.1.is_kind) hv.2) hw.2
 not_later format before row Misspelled Misnumbered l hv hw =
     let e : hw.0 ≡ hv.0 = same_kind (kind_of format row) hw.0 hv.0 hw.1.is_kind hv.1.is_kind in
-    hv.3 hw.3.0 (subst (λ k. IsRow format k hw.3.0 row) e hw.3.1)
+    hv.3 hw.3.0 (subst (λ k. IsRow k hw.3.0 row) e hw.3.1)
 not_later format before row v w l hv hw = absurd (omega (arith, l, last_turn w))
 
 -- each has a turn of its own

@@ -27,7 +27,7 @@ fine_rises format [] fine = tt
 fine_rises format (row ∷ rows) fine = (fine.0.kind, fine.0.is_of.is_kind, omega arith, rises format (row ∷ []) rows fine.0.kind (last_kind-push format [] row ∙ fine.0.is_of.is_kind) fine.1)
 
 -- a row is picked for its own kind
-picked-own : (format : ℕ) (j k : Kind) (row : Row) (rows : List Row) → kind_of format row ≡ Some j → (place j == place k) ≡ true → picked format k (row ∷ rows) ≡ row ∷ picked format k rows
+pub picked-own : (format : ℕ) (j k : Kind) (row : Row) (rows : List Row) → kind_of format row ≡ Some j → (place j == place k) ≡ true → picked format k (row ∷ rows) ≡ row ∷ picked format k rows
 unfolding picked
 picked-own format j k row rows is same = rw (is, same) refl
 

@@ -1,6 +1,6 @@
 -- What the reader's loop keeps, its steps, and its refusals.
 use Rattle.std.proofs.Common.{◌≡◌, ℕ, ◌+◌, ◌<◌, ◌==◌, true, false, cond, List, [], ◌∷◌, ◌++◌, length, take, drop, Option, Some, None, is_some, refl, sym, ap, subst, ◌∙◌, inl, inr, arith, length-take}
-use Rattle.std.proofs.lemmas.Bool.{and_parts, ltb-true, ne_eqb}
+use Rattle.std.proofs.lemmas.Bool.{and_parts, cases_Bool, ltb-true, ne_eqb}
 use Rattle.std.proofs.lemmas.List.{drop_more, take_more, take-append-drop}
 use Rattle.tomo_base.specs.Sets.{one_if}
 use Rattle.rows.specs.Rows.{Row}
@@ -9,11 +9,13 @@ use Rattle.plan_form.specs.declared.faults.PlanFault.{PlanFault}
 use Rattle.plan_form.specs.declared.faults.PlanFault.TheVariants as faults
 use Rattle.plan_form.specs.declared.kinds.Kind.{Kind}
 use Rattle.plan_form.specs.declared.kinds.Kind.TheVariants as kinds
-use Rattle.plan_form.specs.Kinds.{place}
+use Rattle.plan_form.specs.Kinds.{is_numbered, place}
 use Rattle.plan_form.specs.Parts.{PlanParts}
-use Rattle.plan_form.specs.PlanRows.{numbered, rows_of_kind}
+use Rattle.plan_form.specs.PlanRows.{numbered, row_of}
 use Rattle.plan_form.specs.Reading.{IsRow, is_kind, counted, last_kind, may_follow, IsNext, AreNext, FaultAt, Why, Late, Unknown, Misplaced, Misspelled, Misnumbered, IsFirstAt, IsFirstFaultIn}
-use Rattle.plan_form.specs.Taking.{no_parts, IsPart, Takes, RefusesRow, IsNextKind, RefusesKind}
+use Rattle.plan_form.specs.Taking.{no_parts, IsPart, told, told_rows, Takes, RefusesRow, IsNextKind, RefusesKind}
+use Rattle.plan_form.proofs.Numbering.{length-numbered}
+use Rattle.plan_form.proofs.Telling.{bare_row, numbered_part}
 use Rattle.plan_form.proofs.Walking.{picked, length-picked, counted-push, picked-push, last_kind-push, AreNext-push}
 
 -- the first r rows have no fault, the last of them is of the kind `last`, and the plan is what they say
@@ -22,14 +24,14 @@ pub record Walked (format : ℕ) (rows : List Row) (r : ℕ) (last : Option Kind
   pub last_is : last_kind format (take r rows) ≡ last
   pub begun : counted format kinds.Plan (take r rows) ≡ one_if (is_some last)
   pub ended : counted format kinds.End (take r rows) ≡ one_if (is_kind last kinds.End)
-  pub held : (k : Kind) → IsPart k → picked format k (take r rows) ≡ rows_of_kind format p k
+  pub held : (k : Kind) → IsPart k → picked format k (take r rows) ≡ told_rows p k
 
 -- no row yet
 pub walk_none : (format : ℕ) (rows : List Row) → Walked format rows 0 None no_parts
 unfolding counted last_kind picked numbered
 walk_none format rows = record { fine = tt; last_is = refl; begun = refl; ended = refl; held = λ k part. none k part }
   where
-    none : (k : Kind) → IsPart k → [] ≡ rows_of_kind format no_parts k
+    none : (k : Kind) → IsPart k → [] ≡ told_rows no_parts k
     none kinds.Plan part = absurd (omega (arith, part.0))
     none kinds.End part = absurd (omega (arith, part.1))
     none _ part = refl
@@ -39,32 +41,24 @@ module _ (format : ℕ) (rows : List Row) (r : ℕ) (last : Option Kind) (p : Pl
   pub one_row_more : take (r + 1) rows ≡ take r rows ++ row_at rows r ∷ []
   one_row_more = take_more rows r [] lt
 
-  -- so many rows of a kind there were
-  pub part_counted : (k : Kind) → IsPart k → length (rows_of_kind format p k) ≡ counted format k (take r rows)
-  part_counted k part = sym (ap (length {A = Row}) (w.held k part)) ∙ length-picked format k (take r rows)
+  -- as many rows of a kind as the plan has items of it
+  pub part_counted : (k : Kind) → IsPart k → length (told p k) ≡ counted format k (take r rows)
+  part_counted k part = sym (length-numbered (row_of k) 0 (told p k)) ∙ (sym (ap (length {A = Row}) (w.held k part)) ∙ length-picked format k (take r rows))
 
   -- the row has the number of its place
-  in_place : (k : Kind) (row : Row) → IsRow format k (length (rows_of_kind format p k)) row → IsRow format k (counted format k (take r rows)) row
-  unfolding IsRow
-  in_place kinds.Plan row is = is
-  in_place kinds.Monitor row is = is
-  in_place kinds.End row is = is
-  in_place k row is = subst (λ n. IsRow format k n row) (part_counted k (omega arith, omega arith)) is
+  in_place : (k : Kind) (row : Row) → IsRow k (length (told p k)) row → IsRow k (counted format k (take r rows)) row
+  in_place k row is = elim (cases_Bool (is_numbered k)) [ inl b ↦ subst (λ n. IsRow k n row) (part_counted k (numbered_part k b)) is | inr b ↦ bare_row k _ _ row b is ]
 
-  -- and the other way round
-  out_of_place : (k : Kind) (row : Row) → IsRow format k (counted format k (take r rows)) row → IsRow format k (length (rows_of_kind format p k)) row
-  unfolding IsRow
-  out_of_place kinds.Plan row is = is
-  out_of_place kinds.Monitor row is = is
-  out_of_place kinds.End row is = is
-  out_of_place k row is = subst (λ n. IsRow format k n row) (sym (part_counted k (omega arith, omega arith))) is
+  -- a row with the number of its place has that of the plan's next item
+  out_of_place : (k : Kind) (row : Row) → IsRow k (counted format k (take r rows)) row → IsRow k (length (told p k)) row
+  out_of_place k row is = elim (cases_Bool (is_numbered k)) [ inl b ↦ subst (λ n. IsRow k n row) (sym (part_counted k (numbered_part k b))) is | inr b ↦ bare_row k _ _ row b is ]
 
   -- before the end row there is none
   no_end : is_kind last kinds.End ≡ false → counted format kinds.End (take r rows) ≡ 0
   no_end open_yet = w.ended ∙ rw open_yet refl
 
   -- a row of a kind that may come, with its number, follows
-  follows : (k : Kind) (p' : PlanParts) → IsNextKind format last (row_at rows r) k → Takes format k (row_at rows r) p p' → IsNext format (take r rows) (row_at rows r)
+  follows : (k : Kind) (p' : PlanParts) → IsNextKind format last (row_at rows r) k → Takes k (row_at rows r) p p' → IsNext format (take r rows) (row_at rows r)
   follows k p' next takes = record {
     kind = k;
     is_of = record { open_yet = no_end next.open_yet; is_kind = next.kind };
@@ -81,7 +75,7 @@ module _ (format : ℕ) (rows : List Row) (r : ℕ) (last : Option Kind) (p : Pl
       one (Some j) order = rw (ne_eqb (place k) 0 (λ e. absurd (omega (arith, e, ltb-true 0 (place k) (and_parts _ _ order).0)))) refl
 
   -- one row more
-  pub walk_on : (k : Kind) (p' : PlanParts) → IsNextKind format last (row_at rows r) k → Takes format k (row_at rows r) p p' → Walked format rows (r + 1) (Some k) p'
+  pub walk_on : (k : Kind) (p' : PlanParts) → IsNextKind format last (row_at rows r) k → Takes k (row_at rows r) p p' → Walked format rows (r + 1) (Some k) p'
   walk_on k p' next takes = record {
     fine = rw one_row_more (AreNext-push format (take r rows) (row_at rows r) w.fine (follows k p' next takes));
     last_is = rw one_row_more (last_kind-push format (take r rows) (row_at rows r) ∙ next.kind);
@@ -115,7 +109,7 @@ module _ (format : ℕ) (rows : List Row) (r : ℕ) (last : Option Kind) (p : Pl
       late e = rw (w.ended, e) (omega arith)
 
   -- the fault of a row of a kind that may come
-  pub row_refused : (k : Kind) (f : PlanFault) → IsNextKind format last (row_at rows r) k → RefusesRow format k (length (rows_of_kind format p k)) (r + 1) (row_at rows r) f → IsFirstFaultIn format rows f
+  pub row_refused : (k : Kind) (f : PlanFault) → IsNextKind format last (row_at rows r) k → RefusesRow k (length (told p k)) (r + 1) (row_at rows r) f → IsFirstFaultIn format rows f
   row_refused k faults.NoMemory next h = tt
   row_refused k (faults.Record n) next h = absurd h
   row_refused k (faults.Number n) next h = subst (λ m. IsFirstAt format rows m Misspelled) (sym h.0) (first_fault Misspelled (k, record { open_yet = no_end next.open_yet; is_kind = next.kind }, rw w.last_is next.in_order, h.1))

@@ -1,28 +1,38 @@
 -- The kind of a row, by the word that it begins with.
-use Rattle.std.proofs.Common.{◌≡◌, ℕ, Bool, true, false, length, Some, None}
-use Rattle.std.specs.Prelude.{bytes_eq, codes}
-use Rattle.std.specs.Fmt.{digits}
+use Rattle.std.proofs.Common.{◌≡◌, ℕ, Bool, true, false, ◌&&◌, ◌==◌, nat_le, List, Some, None, sym, ap, ◌∙◌, inl, inr}
+use Rattle.std.specs.Prelude.{bytes_eq}
+use Rattle.std.specs.Fmt.{decimal}
+use Rattle.std.proofs.lemmas.Bool.{cases_eq, eq-eqb, ne_eqb, false_from_ne_true}
+use Rattle.std.proofs.lemmas.Slice.Eq.{bytes_eq-Decides}
 use Rattle.rows.specs.Rows.{Row}
 use Rattle.plan_form.specs.declared.kinds.Kind.{Kind}
-use Rattle.plan_form.specs.declared.kinds.Kind.TheVariants.{Plan}
-use Rattle.plan_form.specs.Kinds.{field, kind_named, is_record, kind_of}
+use Rattle.plan_form.specs.Parts.{IsSmall}
+use Rattle.plan_form.specs.Values.{Spells}
+use Rattle.plan_form.proofs.Texts.{number_injective}
+use Rattle.plan_form.specs.Kinds.{field, since, kind_named, is_record, kind_of}
 
--- a row with the fields of the kind that it names is of that kind
-pub kind_is : (format : ℕ) (row : Row) (k : Kind) → kind_named (field row 0) ≡ Some k → is_record format row k ≡ true → kind_of format row ≡ Some k
+-- a row with the fields of the kind that it names is of that kind, where the format has it
+pub kind_is : (format : ℕ) (row : Row) (k : Kind) → kind_named (field row 0) ≡ Some k → (nat_le (since k) format && is_record row k) ≡ true → kind_of format row ≡ Some k
 unfolding kind_of
-kind_is format row k named record_is = rw (named, record_is)
+kind_is format row k named fine = rw (named, fine)
 
--- one with other fields is of none
-pub no_record : (format : ℕ) (row : Row) (k : Kind) → kind_named (field row 0) ≡ Some k → is_record format row k ≡ false → kind_of format row ≡ None
+-- a row with other fields, or of a kind that the format has not, is of none
+pub no_record : (format : ℕ) (row : Row) (k : Kind) → kind_named (field row 0) ≡ Some k → (nat_le (since k) format && is_record row k) ≡ false → kind_of format row ≡ None
 unfolding kind_of
 no_record format row k named other = rw (named, other)
 
--- nor is one that names no kind
+-- a text that spells a number is the number's text where the numbers are equal
+pub same_number : (text : List ℕ) (n m : ℕ) → IsSmall m → Spells IsSmall decimal text (Some n) → bytes_eq text (decimal m) ≡ (n == m)
+same_number text n m small is = elim (cases_eq n m) [
+  | inl e ↦ rw (eq-eqb n m e) ((bytes_eq-Decides text (decimal m)).1 (is.1 ∙ ap decimal e))
+  | inr ne ↦ rw (ne_eqb n m ne) (false_from_ne_true _ (λ b. ne (number_injective n m is.0 small (sym is.1 ∙ (bytes_eq-Decides text (decimal m)).0 b))))
+]
+
+-- a text that spells no number is the text of none
+pub no_number : (text : List ℕ) (m : ℕ) → IsSmall m → Spells IsSmall decimal text None → bytes_eq text (decimal m) ≡ false
+no_number text m small none = false_from_ne_true _ (λ b. none m small ((bytes_eq-Decides text (decimal m)).0 b))
+
+-- a row that names no kind is of none
 pub no_name : (format : ℕ) (row : Row) → kind_named (field row 0) ≡ None → kind_of format row ≡ None
 unfolding kind_of
 no_name format row none = rw none
-
--- a plan row has two fields, and the second is the format's number
-pub plan_record : (row : Row) (test : Bool) → length row ≡ 2 → test ≡ bytes_eq (field row 1) (codes "1") → test ≡ is_record 1 row Plan
-unfolding digits
-plan_record row test wide is = rw (wide, is)

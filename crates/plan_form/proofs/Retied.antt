@@ -16,7 +16,7 @@ use Rattle.tomo_base.specs.Recipes.{gain_of, loss_of}
 use Rattle.tomo_base.proofs.Counts.{count-le}
 use Rattle.simple_path.specs.declared.recipe.Term.{Term}
 use Rattle.simple_path.specs.Terms.{weighted_by}
-use Rattle.simple_path.proofs.Short.{few_once}
+use Rattle.tomo_base.proofs.Paths.{few_once}
 use Rattle.plan_form.specs.Building.{turned, renumbered, IsBuilt}
 use Rattle.plan_form.specs.Order.{path_cmp}
 use Rattle.plan_form.specs.Tied.{place_between, recipe_between, AreTied}

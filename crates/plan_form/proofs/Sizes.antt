@@ -1,27 +1,28 @@
 -- How long the text of a plan is.
-use Rattle.std.proofs.Common.{refl, ◌≡◌, ◌∙◌, subst, ℕ, suc, ◌+◌, ◌*◌, ◌^◌, ◌<◌, ◌≤◌, true, List, [], ◌∷◌, ◌++◌, map, length, get_or, not, ◌||◌, ◌==◌, arith, length-append, All, inl, inr, ℤ, pos, negsuc}
+use Rattle.std.proofs.Common.{refl, ◌≡◌, ◌∙◌, subst, ℕ, suc, ◌+◌, ◌*◌, ◌^◌, ◌<◌, ◌≤◌, true, List, [], ◌∷◌, ◌++◌, map, length, get_or, not, ◌||◌, ◌==◌, arith, length-append, All, inl, inr, ℤ, pos, negsuc, rules}
 use Rattle.std.specs.Fmt.{decimal, signed_decimal}
 use Rattle.std.specs.Int.{IsInRange}
 use Rattle.std.specs.List.{join_with_byte, sum_by, flat_map}
 use Rattle.std.proofs.lemmas.Bool.{cases_Bool}
 use Rattle.std.proofs.lemmas.Bool.Decides.{nat_tests}
 use Rattle.std.proofs.lemmas.Fmt.{decimal_is_IsNumeral, length-decimal-le}
-use Rattle.std.proofs.lemmas.List.{length-map, get_or_default}
-use Rattle.std.proofs.lemmas.List.Elements.{All-head, All-tail, All-map}
+use Rattle.std.proofs.lemmas.List.{get_or_default}
+use Rattle.std.proofs.lemmas.List.Elements.{All-cons, All-head, All-tail}
 use Rattle.std.proofs.lemmas.List.Folds.{list_all-append}
-use Rattle.std.proofs.lemmas.List.Sums.{sum_by-append, sum_by-cons, sum_by-le}
+use Rattle.std.proofs.lemmas.List.Sums.{sum_by-append, sum_by-cons}
 use Rattle.std.proofs.lemmas.Str.Parse.{digit_at}
+use Rattle.tomo_base.specs.Limits.{link_limit, node_limit}
 use Rattle.tomo_base.specs.declared.graph.Link.{Link}
 use Rattle.rows.specs.Rows.{Row, is_plain, field_size, row_size}
 use Rattle.rows.specs.Laws.{TextFits}
 use Rattle.simple_path.specs.declared.recipe.Term.{Term}
 use Rattle.plan_form.specs.declared.kinds.Kind.{Kind}
 use Rattle.plan_form.specs.declared.kinds.Kind.TheVariants as kinds
-use Rattle.plan_form.specs.Kinds.{in_turn}
+use Rattle.plan_form.specs.Kinds.{newest_format, in_turn}
 use Rattle.plan_form.specs.Laws.{PrintedIsShort}
-use Rattle.plan_form.specs.Limits.{AreFewNodes, IsLowLink, IsLowPocket, AreFewTerms, IsWithinLimits}
+use Rattle.plan_form.specs.Limits.{AreFewNodes, IsLowLink, IsLowPocket, AreFewTerms, IsWithinLimits, path_limit}
 use Rattle.plan_form.specs.Parts.{PlanPocket, PlanParts, IsCoefficient}
-use Rattle.plan_form.specs.PlanRows.{numbered, node_row, link_row, monitor_row, pocket_row, path_row, recipe_row, rows_of_kind, plan_rows}
+use Rattle.plan_form.specs.PlanRows.{Item, items, row_of, numbered, rows_of_kind, plan_rows}
 use Rattle.plan_form.specs.Spelling.{space, colon, numbers_text, term_text, terms_text}
 
 -- the field needs no quotes, and has at most k bytes
@@ -55,12 +56,12 @@ decimal_fits k n some few small = (
   length-decimal-le k n some few (omega (arith, small)),
 )
 
--- a number below 1,000
-node_fits : (n : ℕ) → n < 1000 → Fits 3 (decimal n)
+-- the number of a node
+node_fits : (n : ℕ) → n < node_limit → Fits 3 (decimal n)
 node_fits n low = decimal_fits 3 n (omega arith) (omega (arith, low)) (omega (arith, low))
 
 -- a number of a row
-number_fits : (n : ℕ) → n < 16000 → Fits 5 (decimal n)
+number_fits : (n : ℕ) → n < path_limit → Fits 5 (decimal n)
 number_fits n low = decimal_fits 5 n (omega arith) (omega (arith, low)) (omega (arith, low))
 
 -- a coefficient, with its sign
@@ -69,7 +70,7 @@ signed_fits (pos n) h = let one = decimal_fits 1 n (omega arith) (omega (arith, 
 signed_fits (negsuc n) h = fits_append 1 1 (45 ∷ []) (decimal (suc n)) (refl, omega arith) (decimal_fits 1 (suc n) (omega arith) (omega (arith, h)) (omega (arith, h)))
 
 -- a term
-term_fits : (t : Term) → IsCoefficient t.coef × (t.path < 16000) → Fits 8 (term_text t)
+term_fits : (t : Term) → IsCoefficient t.coef × (t.path < path_limit) → Fits 8 (term_text t)
 term_fits t h = fits_append 2 6 (signed_decimal t.coef) (colon ∷ decimal t.path) (signed_fits t.coef h.0) (fits_append 1 5 (colon ∷ []) (decimal t.path) (refl, omega arith) (number_fits t.path h.1))
 
 -- items joined by spaces: each has one byte more
@@ -84,7 +85,7 @@ joined_fits {A} f k (x ∷ y ∷ xs) each =
     (all.0, omega (arith, all.1))
 
 -- a list of nodes
-nodes_fit : (nodes : List ℕ) → AreFewNodes nodes → Fits 4000 (numbers_text nodes)
+nodes_fit : (nodes : List ℕ) → AreFewNodes nodes → Fits (4 * node_limit) (numbers_text nodes)
 nodes_fit nodes few =
     let joined = joined_fits decimal 3 nodes (λ i d l. node_fits (get_or nodes i d) (few.1 i d l)) in
     (joined.0, omega (arith, joined.1, few.0))
@@ -95,74 +96,89 @@ terms_fit terms few =
     let joined = joined_fits term_text 8 terms (λ i d l. term_fits (get_or terms i d) (few.1 i d l)) in
     (joined.0, omega (arith, joined.1, few.0))
 
--- the row of a name, which may stand in quotes
-node_row_size : (i : ℕ) (name : List ℕ) → i < 16000 → length name ≤ 64 → row_size (node_row i name) ≤ 145
-node_row_size i name low few = omega (arith, fits_size 5 (decimal i) (number_fits i low), name_size name few)
+-- what the rows of a plan within the limits tell
+abbrev IsLowItem : (k : Kind) → Item k → Type 0
+IsLowItem kinds.Plan format = format < 10
+IsLowItem kinds.Node name = length name ≤ 64
+IsLowItem kinds.Link l = IsLowLink l
+IsLowItem kinds.Must v = v < 1000
+IsLowItem kinds.Not v = v < 1000
+IsLowItem kinds.Monitor v = v < 1000
+IsLowItem kinds.Pocket p = IsLowPocket p
+IsLowItem kinds.Path nodes = AreFewNodes nodes
+IsLowItem kinds.Recipe terms = AreFewTerms terms
+IsLowItem kinds.End t = Unit {0}
 
--- the row of a link
-link_row_size : (i : ℕ) (l : Link) → i < 16000 → IsLowLink l → row_size (link_row i l) ≤ 22
-link_row_size i l low ends = omega (arith, fits_size 5 (decimal i) (number_fits i low), fits_size 3 (decimal l.a) (node_fits l.a ends.0), fits_size 3 (decimal l.b) (node_fits l.b ends.1))
+-- how many rows of the kind there are at most, and how many bytes each of them has
+abbrev most : Kind → ℕ × ℕ
+most kinds.Plan = (1, 14)
+most kinds.Node = (1000, 145)
+most kinds.Link = (4000, 22)
+most kinds.Must = (1000, 12)
+most kinds.Not = (1000, 11)
+most kinds.Monitor = (1000, 15)
+most kinds.Pocket = (1000, 4021)
+most kinds.Path = (16000, 4015)
+most kinds.Recipe = (4000, 161)
+most kinds.End = (1, 7)
 
--- the row of a monitor
-monitor_row_size : (v : ℕ) → v < 1000 → row_size (monitor_row v) ≤ 15
-monitor_row_size v low = omega (arith, fits_size 3 (decimal v) (node_fits v low))
-
--- the row of a pocket
-pocket_row_size : (i : ℕ) (k : PlanPocket) → i < 16000 → IsLowPocket k → row_size (pocket_row i k) ≤ 4021
-pocket_row_size i k low few =
+-- the row of each such item has no more bytes; that of a name may stand in quotes
+item_size : (k : Kind) (i : ℕ) (x : Item k) → i < 16000 → IsLowItem k x → row_size (row_of k i x) ≤ (most k).1
+item_size kinds.Plan i format low few = omega (arith, fits_size 1 (decimal format) (decimal_fits 1 format (omega arith) (omega (arith, few)) (omega (arith, few))))
+item_size kinds.Node i name low few = omega (arith, fits_size 5 (decimal i) (number_fits i low), name_size name few)
+item_size kinds.Link i l low ends = omega (arith, fits_size 5 (decimal i) (number_fits i low), fits_size 3 (decimal l.a) (node_fits l.a ends.0), fits_size 3 (decimal l.b) (node_fits l.b ends.1))
+item_size kinds.Must i v low few = omega (arith, fits_size 3 (decimal v) (node_fits v few))
+item_size kinds.Not i v low few = omega (arith, fits_size 3 (decimal v) (node_fits v few))
+item_size kinds.Monitor i v low few = omega (arith, fits_size 3 (decimal v) (node_fits v few))
+item_size kinds.Pocket i k low few =
     omega (arith, fits_size 5 (decimal i) (number_fits i low), fits_size 3 (decimal k.need) (node_fits k.need few.0), fits_size 4000 (numbers_text k.nodes) (nodes_fit k.nodes few.1))
+item_size kinds.Path i nodes low few = omega (arith, fits_size 5 (decimal i) (number_fits i low), fits_size 4000 (numbers_text nodes) (nodes_fit nodes few))
+item_size kinds.Recipe i terms low few = omega (arith, fits_size 5 (decimal i) (number_fits i low), fits_size 144 (terms_text terms) (terms_fit terms few))
+item_size kinds.End i t low few = omega arith
 
--- the row of a path
-path_row_size : (i : ℕ) (nodes : List ℕ) → i < 16000 → AreFewNodes nodes → row_size (path_row i nodes) ≤ 4015
-path_row_size i nodes low few = omega (arith, fits_size 5 (decimal i) (number_fits i low), fits_size 4000 (numbers_text nodes) (nodes_fit nodes few))
+-- a plan within the limits tells such items, and no more of them
+items_low : (p : PlanParts) → IsWithinLimits p → (k : Kind) → All (IsLowItem k) (items newest_format p k) × (length (items newest_format p k) ≤ (most k).0)
+items_low p within kinds.Plan = (All-cons (λ n. n < 10) newest_format [] (omega arith) (λ i d l. absurd (omega (arith, l))), omega arith)
+items_low p within kinds.Node = (within.names, within.few_names)
+items_low p within kinds.Link = (within.links, within.few_links)
+items_low p within kinds.Must = (within.forced.1, within.forced.0)
+items_low p within kinds.Not = (within.barred.1, within.barred.0)
+items_low p within kinds.Monitor = (within.monitors.1, within.monitors.0)
+items_low p within kinds.Pocket = (within.pockets, within.few_pockets)
+items_low p within kinds.Path = (within.paths, within.few_paths)
+items_low p within kinds.Recipe = (within.recipes, within.few_recipes)
+items_low p within kinds.End = (λ i d l. tt, omega arith)
 
--- the row of a recipe
-recipe_row_size : (i : ℕ) (terms : List Term) → i < 16000 → AreFewTerms terms → row_size (recipe_row i terms) ≤ 161
-recipe_row_size i terms low few = omega (arith, fits_size 5 (decimal i) (number_fits i low), fits_size 144 (terms_text terms) (terms_fit terms few))
-
--- numbered rows of at most k bytes each
-numbered_size : {A : Type 0} (f : ℕ → A → Row) (Few : A → Type 0) (k : ℕ) → ((i : ℕ) (x : A) → i < 16000 → Few x → row_size (f i x) ≤ k)
-    → (i : ℕ) (xs : List A) → i + length xs ≤ 16000 → All Few xs → sum_by row_size (numbered f i xs) ≤ length xs * k
+-- the rows of such items together
+items_size : (k : Kind) (i : ℕ) (xs : List (Item k)) → i + length xs ≤ 16000 → All (IsLowItem k) xs → sum_by row_size (numbered (row_of k) i xs) ≤ length xs * (most k).1
 unfolding numbered
-numbered_size f Few k each i [] room all = omega arith
-numbered_size f Few k each i (x ∷ xs) room all =
-    let first = each i x (omega (arith, room)) (All-head Few x xs all) in
-    let rest = numbered_size f Few k each (i + 1) xs (omega (arith, room)) (All-tail Few x xs all) in
-    omega (arith, first, rest, sum_by-cons row_size (f i x) (numbered f (i + 1) xs))
+items_size k i [] room all = omega arith
+items_size k i (x ∷ xs) room all =
+    let first = item_size k i x (omega (arith, room)) (All-head (IsLowItem k) x xs all) in
+    let rest = items_size k (i + 1) xs (omega (arith, room)) (All-tail (IsLowItem k) x xs all) in
+    omega (arith, first, rest, sum_by-cons row_size (row_of k i x) (numbered (row_of k) (i + 1) xs))
 
--- the most bytes of the rows of a kind
-abbrev most : Kind → ℕ
-most kinds.Plan = 14
-most kinds.Node = 145000
-most kinds.Link = 88000
-most kinds.Monitor = 15000
-most kinds.Pocket = 4021000
-most kinds.Path = 64240000
-most kinds.Recipe = 644000
-most kinds.End = 7
-
--- and of the rows of several kinds
+-- the most bytes of the rows of several kinds
 abbrev most_of : List Kind → ℕ
 most_of [] = 0
-most_of (k ∷ ks) = most k + most_of ks
+most_of (k ∷ ks) = (most k).0 * (most k).1 + most_of ks
 
--- the rows of a kind of a plan within the limits have no more
-kind_size : (p : PlanParts) → IsWithinLimits p → (k : Kind) → sum_by row_size (rows_of_kind 1 p k) ≤ most k
-kind_size p within kinds.Plan = omega (arith, fits_size 5 (decimal 1) (number_fits 1 (omega arith)))
-kind_size p within kinds.Node = omega (arith, within.few_names, numbered_size node_row (λ name. length name ≤ 64) 145 node_row_size 0 p.names (omega (arith, within.few_names)) within.names)
-kind_size p within kinds.Link = omega (arith, within.few_links, numbered_size link_row IsLowLink 22 link_row_size 0 p.links (omega (arith, within.few_links)) within.links)
-kind_size p within kinds.Monitor =
-    let each = sum_by-le row_size 15 (map monitor_row p.monitors) (All-map (λ row. row_size row ≤ 15) monitor_row p.monitors (λ i d l. monitor_row_size (get_or p.monitors i d) (within.monitors.1 i d l))) in
-    omega (arith, within.monitors.0, length-map p.monitors monitor_row, each)
-kind_size p within kinds.Pocket = omega (arith, within.few_pockets, numbered_size pocket_row IsLowPocket 4021 pocket_row_size 0 p.pockets (omega (arith, within.few_pockets)) within.pockets)
-kind_size p within kinds.Path = omega (arith, within.few_paths, numbered_size path_row AreFewNodes 4015 path_row_size 0 p.paths (omega (arith, within.few_paths)) within.paths)
-kind_size p within kinds.Recipe = omega (arith, within.few_recipes, numbered_size recipe_row AreFewTerms 161 recipe_row_size 0 p.recipes (omega (arith, within.few_recipes)) within.recipes)
-kind_size p within kinds.End = omega arith
+-- of no kind there are more rows than paths may be
+few_rows : (k : Kind) → (most k).0 ≤ 16000
+few_rows kinds.Plan = omega arith
+few_rows _ = omega arith
 
--- nor have those of several kinds
-kinds_size : (p : PlanParts) → IsWithinLimits p → (ks : List Kind) → sum_by row_size (flat_map (rows_of_kind 1 p) ks) ≤ most_of ks
+-- the rows of several kinds of a plan within the limits have no more bytes than that
+kinds_size : (p : PlanParts) → IsWithinLimits p → (ks : List Kind) → sum_by row_size (flat_map (rows_of_kind newest_format p) ks) ≤ most_of ks
 kinds_size p within [] = omega arith
-kinds_size p within (k ∷ ks) = omega (arith, sum_by-append row_size (rows_of_kind 1 p k) (flat_map (rows_of_kind 1 p) ks), kind_size p within k, kinds_size p within ks)
+kinds_size p within (k ∷ ks) =
+    let low = items_low p within k in
+    let one : sum_by row_size (rows_of_kind newest_format p k) ≤ length (items newest_format p k) * (most k).1 = items_size k 0 (items newest_format p k) (omega (arith, low.1, few_rows k)) low.0 in
+    let all : length (items newest_format p k) * (most k).1 ≤ (most k).0 * (most k).1 = times_le (length (items newest_format p k)) (most k).0 (most k).1 low.1 in
+    omega (arith, sum_by-append row_size (rows_of_kind newest_format p k) (flat_map (rows_of_kind newest_format p) ks), one, all, kinds_size p within ks)
+  where
+    times_le : (a b c : ℕ) → a ≤ b → a * c ≤ b * c
+    times_le a b c le = search rules
 
 -- so the text of a plan within the limits is short
 pub plan_short : TextFits → PrintedIsShort

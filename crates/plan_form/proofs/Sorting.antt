@@ -1,13 +1,10 @@
--- A sort of vectors sorts the lists that they hold.
-use Rattle.std.proofs.Common.{◌≡◌, ℕ, zero, suc, ◌+◌, add-one, ◌<◌, ◌≤◌, eqb, Bool, List, [], ◌∷◌, length, map, get_or, refl, sym, ap, ◌∙◌, inl, inr, arith, Vec, Contains}
-use lib.Pointwise.{pointwise, bytes_decides}
+-- A sort of paths leaves as many nodes, and a search finds the place of a path.
+use Rattle.std.proofs.Common.{◌≡◌, ℕ, zero, suc, add-one, ◌<◌, ◌≤◌, Bool, List, [], ◌∷◌, length, get_or, refl, sym, ◌∙◌, inl, inr, arith, Vec, Contains}
 use Rattle.std.specs.Global.{Global}
 use Rattle.std.specs.declared.cmp.Ordering.{Ordering}
-use Rattle.std.specs.Ordering.{nat_cmp}
-use Rattle.std.specs.Cmp.Lexicographic.{lists_ties, nat_list_cmp_total, nat_list_eq_equiv}
-use Rattle.std.specs.Cmp.{unsigned_ties}
+use Rattle.std.specs.Cmp.Lexicographic.{nat_list_cmp_total}
 use Rattle.std.specs.List.{dedup}
-use Rattle.std.specs.List.Sorted.{IsSorted, IsStrictlySortedBy}
+use Rattle.std.specs.List.Sorted.{IsStrictlySortedBy}
 use Rattle.std.specs.List.{sum_by}
 use Rattle.std.specs.List.Sorted.{IsSortedBy, IsNonDecreasingBy, IsPartitionPoint, IsPermutation}
 use Rattle.std.specs.Ordering.{is_lt, ordering_reverse, ordering_index}
@@ -18,40 +15,12 @@ use Rattle.std.proofs.lemmas.List.Sorted.{sum_by-IsPermutation, searchable_from_
 use Rattle.std.proofs.lemmas.Map.Lookups.{exact_bytes}
 use Rattle.simple_path.specs.Pools.{nodes_in}
 use Rattle.std.proofs.lemmas.List.{get_or-map, length-map}
-use Rattle.std.proofs.lemmas.List.Kept.{IsStrictlySortedBy-dedup, Contains-dedup}
 use Rattle.plan_form.specs.Order.{path_cmp}
 use Rattle.plan_form.specs.Building.{turned}
-use Rattle.plan_form.specs.Steps.{lists_of, IsNumberOf}
+use Rattle.plan_form.specs.Steps.{IsNumberOf}
+use Rattle.tomo_base.specs.SetLists.{lists_of}
 
--- what is kept of elements that are compared by a value is what is kept of the values
-dedup_more : {X Y : Type 0} (f : X → Y) (E : Y → Y → Bool) (x : X) (xs : List X) → map f (dedup (λ a b. E (f a) (f b)) (x ∷ xs)) ≡ dedup E (f x ∷ map f xs)
-dedup_more f E x [] = refl
-dedup_more f E x (y ∷ ys) = elim (cases_Bool (E (f y) (f x)))
-    [ inl e ↦ rw e (dedup_more f E x ys) | inr e ↦ rw e (ap (λ t. f x ∷ t) (dedup_more f E y ys)) ]
-
--- leaving out repeats of vectors leaves out repeats of lists
-pub dedup-map : {X Y : Type 0} (f : X → Y) (E : Y → Y → Bool) (xs : List X) → map f (dedup (λ a b. E (f a) (f b)) xs) ≡ dedup E (map f xs)
-dedup-map f E [] = refl
-dedup-map f E (x ∷ xs) = dedup_more f E x xs
-
--- elements in the order of a value have their values in order
-pub sorted-map : {X Y : Type 0} (f : X → Y) (R : Y → Y → Ordering) (xs : List X) → IsSorted (λ a b. R (f a) (f b)) xs → IsSorted R (map f xs)
-sorted-map f R [] sorted k d low lt = absurd (omega (arith, lt))
-sorted-map f R (x ∷ xs) sorted k d low lt =
-    let below : k + 1 < length (x ∷ xs) = omega (arith, lt, length-map (x ∷ xs) f) in
-    rw (get_or-map f (x ∷ xs) (k + 1) x d below, get_or-map f (x ∷ xs) k x d (omega (arith, below))) (sorted k x low below)
-
--- sorted, and each once
-pub rises : (vs : List (Vec ℕ Global)) → IsSorted path_cmp (lists_of vs) → IsStrictlySortedBy path_cmp (dedup (pointwise eqb) (lists_of vs))
-rises vs sorted = IsStrictlySortedBy-dedup nat_list_cmp_total (lists_ties nat_cmp unsigned_ties) (lists_of vs) sorted
-
--- and none is lost
-pub keeps : (ps : List (List ℕ)) (p : List ℕ) → Contains ps p → Contains (dedup (pointwise eqb) ps) p
-keeps ps p h = Contains-dedup nat_list_eq_equiv (λ x y. (bytes_decides x y).0) ps p h
-
--- ---- how many node numbers
-
--- as the sum of the lengths
+-- how many node numbers there are is the sum of the lengths
 nodes_in-sum : (ps : List (List ℕ)) → nodes_in ps ≡ sum_by (length {A = ℕ}) ps
 nodes_in-sum = is_sum_by nodes_in (length {A = ℕ}) refl (λ p ps. refl)
 

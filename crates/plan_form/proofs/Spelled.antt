@@ -1,8 +1,8 @@
 -- Rows as the spellings of what they say, and why a row is no such spelling.
-use Rattle.std.proofs.Common.{◌≡◌, ℕ, Bool, true, false, List, [], ◌∷◌, length, Option, Some, None, inl, inr, Result, Ok, Err, IfErr, refl, ap, subst, ◌∙◌, arith}
+use Rattle.std.proofs.Common.{◌≡◌, ℕ, Bool, true, false, nat_le, ◌&&◌, ◌==◌, List, [], ◌∷◌, length, Option, Some, None, inl, inr, Result, Ok, Err, IfErr, refl, ap, subst, ◌∙◌, arith}
 use Rattle.std.specs.Prelude.{bytes_eq, find, cond}
 use Rattle.std.specs.Result.{IsErrAnd}
-use Rattle.std.proofs.lemmas.Bool.{and_parts, cases_Bool, eqb-true}
+use Rattle.std.proofs.lemmas.Bool.{and_parts, both_ways, cases_Bool, eqb-true}
 use Rattle.std.proofs.lemmas.Option.{none-some, same_Some}
 use Rattle.std.proofs.lemmas.Slice.Eq.{bytes_eq-Decides}
 use Rattle.rows.specs.Rows.{Row}
@@ -10,11 +10,13 @@ use Rattle.plan_form.specs.declared.faults.PlanFault.{PlanFault}
 use Rattle.plan_form.specs.declared.faults.PlanFault.TheVariants as faults
 use Rattle.plan_form.specs.declared.kinds.Kind.{Kind}
 use Rattle.plan_form.specs.declared.kinds.Kind.TheVariants as kinds
-use Rattle.plan_form.specs.Kinds.{field, word, width, in_turn, kind_named, filtered, is_record, kind_of}
-use Rattle.plan_form.specs.Parts.{IsSmall}
-use Rattle.plan_form.specs.Reading.{IsNumbered, IsRow}
+use Rattle.plan_form.specs.Kinds.{field, place, word, width, since, in_turn, kind_named, filtered, is_record, kind_of}
+use Rattle.plan_form.specs.PlanRows.{Item, IsItem, row_of}
+use Rattle.plan_form.specs.Reading.{IsRow, is_kind}
 use Rattle.plan_form.specs.Taking.{RefusesRow}
 use Rattle.plan_form.specs.Values.{Spells}
+use Rattle.plan_form.proofs.Telling.{same_place}
+use Rattle.plan_form.proofs.Walking.{picked}
 
 -- what is found passes the test
 found_passes : {A : Type 0} (test : A → Bool) (xs : List A) (x : A) → find test xs ≡ Some x → test x ≡ true
@@ -24,8 +26,8 @@ found_passes test (y ∷ ys) x e = elim (cases_Bool (test y)) [
   | inr b ↦ found_passes test ys x (rw b at e)
 ]
 
--- a row of a kind has the word and the fields of the kind
-pub kind_tells : (format : ℕ) (row : Row) (k : Kind) → kind_of format row ≡ Some k → (field row 0 ≡ word k) × (is_record format row k ≡ true)
+-- a row of a kind has the word and the fields of the kind, and the format has the kind
+pub kind_tells : (format : ℕ) (row : Row) (k : Kind) → kind_of format row ≡ Some k → (field row 0 ≡ word k) × (is_record row k ≡ true) × (nat_le (since k) format ≡ true)
 unfolding kind_of
 kind_tells format row k e = tells (kind_named (field row 0)) refl e
   where
@@ -33,22 +35,34 @@ kind_tells format row k e = tells (kind_named (field row 0)) refl e
     same true j e = (refl, same_Some j k e)
     same false j e = absurd (none-some k e)
 
-    tells : (o : Option Kind) → kind_named (field row 0) ≡ o → filtered (is_record format row) o ≡ Some k → (field row 0 ≡ word k) × (is_record format row k ≡ true)
+    tells : (o : Option Kind) → kind_named (field row 0) ≡ o → filtered (λ j. nat_le (since j) format && is_record row j) o ≡ Some k → (field row 0 ≡ word k) × (is_record row k ≡ true) × (nat_le (since k) format ≡ true)
     tells None named e = absurd (none-some k e)
     tells (Some j) named e =
-        let is = same (is_record format row j) j e in (
+        let is = same (nat_le (since j) format && is_record row j) j e in
+        let both = and_parts _ _ (subst (λ i. (nat_le (since i) format && is_record row i) ≡ true) is.1 is.0) in (
           (bytes_eq-Decides (field row 0) (word k)).0 (found_passes (λ i. bytes_eq (field row 0) (word i)) in_turn k (named ∙ ap (λ i. Some i) is.1)),
-          subst (λ i. is_record format row i ≡ true) is.1 is.0,
+          both.1,
+          both.0,
         )
 
--- a row of a kind has as many fields as the kind
-pub is_wide : (format : ℕ) (row : Row) (k : Kind) → kind_of format row ≡ Some k → length row ≡ width k
-is_wide format row k e = wide k (kind_tells format row k e).1
+-- no row is of a kind that the format has not
+pub none_picked : (format : ℕ) (k : Kind) (rows : List Row) → nat_le (since k) format ≡ false → picked format k rows ≡ []
+unfolding picked
+none_picked format k [] late = refl
+none_picked format k (row ∷ rows) late = rw (other (kind_of format row) refl) (none_picked format k rows late)
   where
-    wide : (k : Kind) → is_record format row k ≡ true → length row ≡ width k
-    wide kinds.Plan h = eqb-true _ _ (and_parts _ _ h).0
-    wide kinds.Node h = eqb-true _ _ (and_parts _ _ h).0
-    wide _ h = eqb-true _ _ h
+    other : (o : Option Kind) → kind_of format row ≡ o → is_kind o k ≡ false
+    other None e = refl
+    other (Some j) e = elim (cases_Bool (place j == place k)) [
+      | inl b ↦ absurd (both_ways _ late (subst (λ i. nat_le (since i) format ≡ true) (same_place j k (eqb-true _ _ b)) (kind_tells format row j e).2))
+      | inr b ↦ b
+    ]
+
+-- a record has as many fields as its kind
+pub is_wide : (k : Kind) (row : Row) → is_record row k ≡ true → length row ≡ width k
+is_wide kinds.Plan row h = eqb-true _ _ (and_parts _ _ h).0
+is_wide kinds.Node row h = eqb-true _ _ (and_parts _ _ h).0
+is_wide _ row h = eqb-true _ _ h
 
 -- rows of few fields, field by field
 pub row_of_one : (row : Row) → length row ≡ 1 → row ≡ field row 0 ∷ []
@@ -71,13 +85,18 @@ row_of_four (a ∷ b ∷ c ∷ d ∷ []) e = refl
 row_of_four _ e = absurd (omega (arith, e))
 
 -- a row with a field that spells no value is no row of its kind
-pub unspelled : {A B : Type 0} (Fits : A → Type 0) (row_of : ℕ → A → Row) (place : ℕ) (Fine : B → Type 0) (text : B → List ℕ) (part : ℕ → A → B) → ((i : ℕ) (x : A) → IsSmall i → Fits x → Fine (part i x) × (field (row_of i x) place ≡ text (part i x)))
-    → (row : Row) → Spells Fine text (field row place) None → (i : ℕ) → IsNumbered Fits row_of i row → ⊥
-unspelled Fits row_of place Fine text part says row none i is =
-    let here = says i is.1 is.0 is.2 in
-    none (part i is.1) here.0 (ap (λ r. field r place) is.3 ∙ here.1)
+pub unspelled : {B : Type 0} (k : Kind) (place : ℕ) (Fine : B → Type 0) (text : B → List ℕ) (part : Item k → B) → ((i : ℕ) (x : Item k) → IsItem k x → Fine (part x) × (field (row_of k i x) place ≡ text (part x)))
+    → (row : Row) → Spells Fine text (field row place) None → (i : ℕ) → IsRow k i row → ⊥
+unspelled k place Fine text part says row none i is =
+    let here = says i is.item is.fits in
+    none (part is.item) here.0 (ap (λ r. field r place) is.row_is ∙ here.1)
 
 -- what is answered at a row that is misspelled
-pub misspelled : {T : Type 0} (format : ℕ) (k : Kind) (i n : ℕ) (row : Row) (answer : Result T PlanFault) (fault : PlanFault) → IsErrAnd answer (λ f. f ≡ fault) → fault ≡ faults.Number n → ((j : ℕ) → IsRow format k j row → ⊥) → IfErr answer (RefusesRow format k i n row)
-misspelled format k i n row (Ok x) fault is number none = tt
-misspelled format k i n row (Err f) fault is number none = rw (is, number) (refl, none)
+pub misspelled : {T : Type 0} (k : Kind) (i n : ℕ) (row : Row) (answer : Result T PlanFault) (fault : PlanFault) → IsErrAnd answer (λ f. f ≡ fault) → fault ≡ faults.Number n → ((j : ℕ) → IsRow k j row → ⊥) → IfErr answer (RefusesRow k i n row)
+misspelled k i n row (Ok x) fault is number none = tt
+misspelled k i n row (Err f) fault is number none = rw (is, number) (refl, none)
+
+-- what is answered at a row of which a number is refused
+pub refused : {T : Type 0} (k : Kind) (i n : ℕ) (row : Row) (answer : Result T PlanFault) (fault : PlanFault) → IsErrAnd answer (λ f. f ≡ fault) → RefusesRow k i n row fault → IfErr answer (RefusesRow k i n row)
+refused k i n row (Ok x) fault is refusal = tt
+refused k i n row (Err f) fault is refusal = rw is refusal

@@ -7,7 +7,7 @@ use Rattle.std.proofs.lemmas.List.{map_more, take_more, map-append, length-map, 
 use Rattle.std.proofs.lemmas.List.Elements.{All-head, All-tail, All-cons, filter-append}
 use Rattle.std.proofs.lemmas.List.Kept.{AllPairs-filter, AllPairs-cons}
 use Rattle.std.specs.List.Sorted.{IsNonDecreasingBy}
-use Rattle.tomo_base.proofs.Rows.{AllPairs-head, AllPairs-tail, AllPairs-insert}
+use Rattle.tomo_base.proofs.Lists.{AllPairs-head, AllPairs-tail, AllPairs-insert}
 use Rattle.simple_path.specs.declared.recipe.Term.{Term}
 use Rattle.plan_form.specs.declared.sums.Tally.{Tally}
 use Rattle.plan_form.specs.Building.{sum_at, renumbered, IsMerged}

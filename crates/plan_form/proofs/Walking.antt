@@ -85,7 +85,7 @@ not_both format before row Misplaced next fault =
     both_ways (is_in_order format before next.kind) (subst (λ k. is_in_order format before k ≡ false) e fault.2) next.in_order
 not_both format before row Misspelled next fault =
     let e : fault.0 ≡ next.kind = same_kind (kind_of format row) fault.0 next.kind fault.1.is_kind next.is_of.is_kind in
-    fault.3 (counted format next.kind before) (subst (λ k. IsRow format k (counted format next.kind before) row) (sym e) next.is_row)
+    fault.3 (counted format next.kind before) (subst (λ k. IsRow k (counted format next.kind before) row) (sym e) next.is_row)
 not_both format before row Misnumbered next fault =
     let e : fault.0 ≡ next.kind = same_kind (kind_of format row) fault.0 next.kind fault.1.is_kind next.is_of.is_kind in
-    fault.4 (subst (λ k. IsRow format k (counted format k before) row) (sym e) next.is_row)
+    fault.4 (subst (λ k. IsRow k (counted format k before) row) (sym e) next.is_row)

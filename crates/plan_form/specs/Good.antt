@@ -1,5 +1,5 @@
 -- When a plan is good for a topology.
-use Rattle.std.specs.Prelude.{ℕ, ◌≡◌, ◌<◌, ◌≤◌, Bool, List, [], ◌∷◌, length, All, AllPairs, slice_index_or}
+use Rattle.std.specs.Prelude.{ℕ, ◌≡◌, ◌<◌, ◌≤◌, Bool, false, IsTrue, List, [], ◌∷◌, length, All, AllPairs, slice_index_or}
 use Rattle.std.specs.List.Sorted.{IsStrictlyIncreasing, IsStrictlySortedBy}
 use Rattle.tomo_base.specs.Network.{Network}
 use Rattle.tomo_base.specs.Sets.{has, size, outside, Avoids}
@@ -17,6 +17,19 @@ pub record AreGoodMonitors (g : Network) (monitors : List ℕ) : Type 0 where
   pub nodes : All (λ v. v < g.nodes) monitors
   pub ascending : IsStrictlyIncreasing monitors
 
+-- forced nodes are nodes, ascending, and each is a monitor
+pub record AreGoodForced (g : Network) (monitors forced : List ℕ) : Type 0 where
+  pub nodes : All (λ v. v < g.nodes) forced
+  pub ascending : IsStrictlyIncreasing forced
+  pub are_monitors : All (λ v. IsTrue (has monitors v)) forced
+
+-- barred nodes are nodes, ascending, and none is forced or a monitor
+pub record AreGoodBarred (g : Network) (forced monitors barred : List ℕ) : Type 0 where
+  pub nodes : All (λ v. v < g.nodes) barred
+  pub ascending : IsStrictlyIncreasing barred
+  pub unforced : All (λ v. has forced v ≡ false) barred
+  pub no_monitors : All (λ v. has monitors v ≡ false) barred
+
 -- a pocket has ascending nodes, at most two outside neighbours, and its need
 pub record IsGoodPocket (g : Network) (p : PlanPocket) : Type 0 where
   pub nodes : All (λ v. v < g.nodes) p.nodes
@@ -24,9 +37,10 @@ pub record IsGoodPocket (g : Network) (p : PlanPocket) : Type 0 where
   pub few : size g (outside g (has p.nodes)) ≤ 2
   pub need : p.need ≡ need_of g (has p.nodes)
 
--- such pockets, no two of which share a node
-pub record AreGoodPockets (g : Network) (pockets : List PlanPocket) : Type 0 where
+-- such pockets, none of which holds a forced node, and no two of which share a node
+pub record AreGoodPockets (g : Network) (forced : List ℕ) (pockets : List PlanPocket) : Type 0 where
   pub each : All (IsGoodPocket g) pockets
+  pub free : All (λ p. Avoids g (has p.nodes) (has forced)) pockets
   pub disjoint : AllPairs (λ p q. Avoids g (has p.nodes) (has q.nodes)) pockets
 
 -- the first node is less than the last
@@ -55,8 +69,10 @@ pub record AreGoodRecipes (g : Network) (paths : List (List ℕ)) (recipes : Lis
 pub record IsGoodPlan (given : List (List ℕ)) (g : Network) (p : PlanParts) : Type 0 where
   pub names : p.names ≡ given
   pub links : p.links ≡ g.links
+  pub forced : AreGoodForced g p.monitors p.forced
+  pub barred : AreGoodBarred g p.forced p.monitors p.barred
   pub monitors : AreGoodMonitors g p.monitors
-  pub pockets : AreGoodPockets g p.pockets
+  pub pockets : AreGoodPockets g p.forced p.pockets
   pub paths : AreGoodPaths g (has p.monitors) p.paths
   pub recipes : AreGoodRecipes g p.paths p.recipes
 

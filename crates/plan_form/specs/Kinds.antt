@@ -1,24 +1,34 @@
--- The kinds of rows of a plan, in the order in which they stand.
-use Rattle.std.specs.Prelude.{ℕ, ◌==◌, ◌&&◌, Bool, cond, List, [], ◌∷◌, length, Option, Some, None, codes, decimal, bytes_eq, find, slice_index_or}
+-- The kinds of rows of a plan, in the order in which they stand, and the formats that have them.
+use Rattle.std.specs.Prelude.{ℕ, ◌==◌, ◌&&◌, ◌||◌, nat_le, Bool, true, false, cond, List, [], ◌∷◌, length, Option, Some, None, codes, decimal, bytes_eq, find, slice_index_or}
 use Rattle.rows.specs.Rows.{Row}
 use Rattle.topology.specs.Names.{is_name}
 use Rattle.plan_form.specs.declared.kinds.Kind.{Kind}
-use Rattle.plan_form.specs.declared.kinds.Kind.TheVariants.{Plan, Node, Link, Monitor, Pocket, Path, Recipe, End}
+use Rattle.plan_form.specs.declared.kinds.Kind.TheVariants.{Plan, Node, Link, Must, Not, Monitor, Pocket, Path, Recipe, End}
+
+-- the number of the format that is printed
+abbrev pub newest_format : ℕ
+newest_format = 2
+
+-- the number of the older format, which is still read
+abbrev pub oldest_format : ℕ
+oldest_format = 1
 
 -- the kinds, in order
 abbrev pub in_turn : List Kind
-in_turn = Plan ∷ Node ∷ Link ∷ Monitor ∷ Pocket ∷ Path ∷ Recipe ∷ End ∷ []
+in_turn = Plan ∷ Node ∷ Link ∷ Must ∷ Not ∷ Monitor ∷ Pocket ∷ Path ∷ Recipe ∷ End ∷ []
 
--- the table: the place of each kind, the word that its rows begin with, and how many fields they have
-abbrev pub table : Kind → ℕ × List ℕ × ℕ
-table Plan = (0, codes "plan", 2)
-table Node = (1, codes "node", 3)
-table Link = (2, codes "link", 4)
-table Monitor = (3, codes "monitor", 2)
-table Pocket = (4, codes "pocket", 4)
-table Path = (5, codes "path", 3)
-table Recipe = (6, codes "recipe", 3)
-table End = (7, codes "end", 1)
+-- the table: the place of each kind, the word that its rows begin with, how many fields they have, whether the second is their number, and the first format that has them
+abbrev pub table : Kind → ℕ × List ℕ × ℕ × Bool × ℕ
+table Plan = (0, codes "plan", 2, false, 1)
+table Node = (1, codes "node", 3, true, 1)
+table Link = (2, codes "link", 4, true, 1)
+table Must = (3, codes "must", 2, false, 2)
+table Not = (4, codes "not", 2, false, 2)
+table Monitor = (5, codes "monitor", 2, false, 1)
+table Pocket = (6, codes "pocket", 4, true, 1)
+table Path = (7, codes "path", 3, true, 1)
+table Recipe = (8, codes "recipe", 3, true, 1)
+table End = (9, codes "end", 1, false, 1)
 
 -- where rows of the kind stand among those of other kinds
 abbrev pub place : Kind → ℕ
@@ -32,6 +42,14 @@ word k = (table k).1
 abbrev pub width : Kind → ℕ
 width k = (table k).2
 
+-- the second field is the row's number among those of its kind
+abbrev pub is_numbered : Kind → Bool
+is_numbered k = (table k).3
+
+-- the first format that has rows of the kind
+abbrev pub since : Kind → ℕ
+since k = (table k).4
+
 -- the kind that a word names
 abbrev pub kind_named : List ℕ → Option Kind
 kind_named bytes = find (λ k. bytes_eq bytes (word k)) in_turn
@@ -40,17 +58,21 @@ kind_named bytes = find (λ k. bytes_eq bytes (word k)) in_turn
 abbrev pub field : Row → ℕ → List ℕ
 field row i = slice_index_or row i []
 
--- the row has the fields of its kind; a plan row has the format's number, and a node row a name
-abbrev pub is_record : ℕ → Row → Kind → Bool
-is_record format row Plan = (length row == width Plan) && bytes_eq (field row 1) (decimal format)
-is_record format row Node = (length row == width Node) && is_name (field row 2)
-is_record format row k = length row == width k
+-- the text is the number of a format
+abbrev pub is_format : List ℕ → Bool
+is_format text = bytes_eq text (decimal oldest_format) || bytes_eq text (decimal newest_format)
+
+-- the row has the fields of its kind; a plan row has a format's number, and a node row a name
+abbrev pub is_record : Row → Kind → Bool
+is_record row Plan = (length row == width Plan) && is_format (field row 1)
+is_record row Node = (length row == width Node) && is_name (field row 2)
+is_record row k = length row == width k
 
 -- the value, where it passes the test
 abbrev pub filtered : {A : Type 0} → (A → Bool) → Option A → Option A
 filtered test None = None
 filtered test (Some x) = cond (test x) (Some x) None
 
--- the kind of a row, where it is a record of one
+-- the kind of a row in a format, where the format has it and the row is a record of it
 unfoldable pub kind_of : ℕ → Row → Option Kind
-kind_of format row = filtered (is_record format row) (kind_named (field row 0))
+kind_of format row = filtered (λ k. nat_le (since k) format && is_record row k) (kind_named (field row 0))

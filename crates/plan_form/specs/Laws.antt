@@ -5,27 +5,27 @@ use Rattle.topology.specs.Topology.{Topo, IsTopology}
 use Rattle.plan_form.specs.declared.faults.PlanFault.{PlanFault}
 use Rattle.plan_form.specs.declared.faults.PlanFault.TheVariants.{NoMemory}
 use Rattle.plan_form.specs.Parts.{PlanParts, IsWellFormed}
-use Rattle.plan_form.specs.PlanRows.{plan_rows}
+use Rattle.plan_form.specs.PlanRows.{plan_rows, AreRowsOf}
 use Rattle.plan_form.specs.Reading.{IsFirstPlanFault}
 use Rattle.plan_form.specs.Good.{IsGoodPlan}
 use Rattle.plan_form.specs.Limits.{IsWithinLimits, text_limit}
 
--- two plans with equal rows are equal
-abbrev pub OneSpelling : Type 0
-OneSpelling = (p q : PlanParts) → IsWellFormed p → IsWellFormed q → plan_rows p ≡ plan_rows q → p ≡ q
+-- rows are those of one plan at most, in whatever format
+abbrev pub OneReading : Type 0
+OneReading = (rows : List Row) (p q : PlanParts) → IsWellFormed p → IsWellFormed q → AreRowsOf rows p → AreRowsOf rows q → p ≡ q
 
--- the rows of a plan have no fault but want of memory
-abbrev pub PrintedHasNoFault : Type 0
-PrintedHasNoFault = (p : PlanParts) (f : PlanFault) → IsWellFormed p → IsFirstPlanFault (plan_rows p) f → f ≡ NoMemory
+-- the rows of a plan, in whatever format, have no fault but want of memory
+abbrev pub PlanHasNoFault : Type 0
+PlanHasNoFault = (rows : List Row) (p : PlanParts) (f : PlanFault) → IsWellFormed p → AreRowsOf rows p → IsFirstPlanFault rows f → f ≡ NoMemory
 
 -- rows have at most one first fault apart from want of memory
 abbrev pub OneFault : Type 0
 OneFault = (rows : List Row) (f g : PlanFault) → IsFirstPlanFault rows f → IsFirstPlanFault rows g → f ≢ NoMemory → g ≢ NoMemory → f ≡ g
 
--- the plan that stands in the text is p: the text has the rows of p and of no other plan, and these have no fault but want of memory
+-- the plan that stands in the text is p: the text has the rows that are printed of p, which are those of no other plan in whatever format, and have no fault but want of memory
 pub record HoldsPlan (text : List ℕ) (p : PlanParts) : Type 0 where
   pub rows : rows_of text ≡ plan_rows p
-  pub only : (q : PlanParts) → IsWellFormed q → rows_of text ≡ plan_rows q → q ≡ p
+  pub only : (q : PlanParts) → IsWellFormed q → AreRowsOf (rows_of text) q → q ≡ p
   pub fine : (f : PlanFault) → IsFirstPlanFault (rows_of text) f → f ≡ NoMemory
 
 -- the plan that stands in the printed text is the plan that was printed

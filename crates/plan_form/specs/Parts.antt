@@ -13,6 +13,8 @@ pub record PlanPocket : Type 0 where
 pub record PlanParts : Type 0 where
   pub names : List (List ℕ)
   pub links : List Link
+  pub forced : List ℕ
+  pub barred : List ℕ
   pub monitors : List ℕ
   pub pockets : List PlanPocket
   pub paths : List (List ℕ)
@@ -51,16 +53,18 @@ IsSmallLink l = IsSmall l.a × IsSmall l.b
 abbrev pub IsSmallPocket : PlanPocket → Type 0
 IsSmallPocket k = IsSmall k.need × IsNodeList k.nodes
 
+-- fewer than n items, each of which can be spelled
+pub record IsListOf {A : Type 0} (Fits : A → Type 0) (n : ℕ) (xs : List A) : Type 0 where
+  pub each : All Fits xs
+  pub few : length xs < n
+
 -- well formed: each part can be spelled
 pub record IsWellFormed (p : PlanParts) : Type 0 where
-  pub names : All IsName p.names
-  pub links : All IsSmallLink p.links
+  pub names : IsListOf IsName (2 ^ 32) p.names
+  pub links : IsListOf IsSmallLink (2 ^ 32) p.links
+  pub forced : All IsSmall p.forced
+  pub barred : All IsSmall p.barred
   pub monitors : All IsSmall p.monitors
-  pub pockets : All IsSmallPocket p.pockets
-  pub paths : All IsNodeList p.paths
-  pub recipes : All IsTermList p.recipes
-  pub few_names : length p.names < 2 ^ 32
-  pub few_links : length p.links < 2 ^ 32
-  pub few_pockets : length p.pockets < 2 ^ 32
-  pub few_paths : length p.paths < 2 ^ 31
-  pub few_recipes : length p.recipes < 2 ^ 32
+  pub pockets : IsListOf IsSmallPocket (2 ^ 32) p.pockets
+  pub paths : IsListOf IsNodeList (2 ^ 31) p.paths
+  pub recipes : IsListOf IsTermList (2 ^ 32) p.recipes

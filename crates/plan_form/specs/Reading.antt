@@ -1,34 +1,35 @@
 -- The faults of rows that are no plan: at a row, by the rows before it, and the first of all.
-use Rattle.std.specs.Prelude.{ℕ, ◌≡◌, ◌+◌, ◌<◌, ◌==◌, nat_le, nat_lt, Bool, true, false, ◌&&◌, List, [], ◌∷◌, ◌++◌, length, Option, Some, None, ◌⊎◌, ⊤}
+use Rattle.std.specs.Prelude.{ℕ, ◌≡◌, ◌+◌, ◌<◌, ◌==◌, nat_le, nat_lt, Bool, true, false, ◌&&◌, cond, List, [], ◌∷◌, ◌++◌, length, Option, Some, None, ◌⊎◌, ⊤, IsTrue, decimal, bytes_eq}
 use Rattle.tomo_base.specs.Sets.{one_if}
 use Rattle.rows.specs.Rows.{Row}
 use Rattle.plan_form.specs.declared.faults.PlanFault.{PlanFault}
 use Rattle.plan_form.specs.declared.faults.PlanFault.TheVariants as faults
 use Rattle.plan_form.specs.declared.kinds.Kind.{Kind}
 use Rattle.plan_form.specs.declared.kinds.Kind.TheVariants as kinds
-use Rattle.plan_form.specs.Kinds.{kind_of, place}
-use Rattle.plan_form.specs.Parts.{IsSmall, IsNodeList, IsTermList, IsName, IsSmallLink, IsSmallPocket}
-use Rattle.plan_form.specs.PlanRows.{plan_row, node_row, link_row, monitor_row, pocket_row, path_row, recipe_row, end_row}
+use Rattle.plan_form.specs.Kinds.{newest_format, oldest_format, kind_of, place, is_numbered, field}
+use Rattle.plan_form.specs.Parts.{IsSmall}
+use Rattle.plan_form.specs.PlanRows.{Item, IsItem, row_of}
 
--- the row is that of a fitting value with number i, which can be spelled
-abbrev pub IsNumbered : {A : Type 0} → (A → Type 0) → (ℕ → A → Row) → ℕ → Row → Type 0
-IsNumbered {A} Fits row_of i row = IsSmall i × (x : A) × Fits x × (row ≡ row_of i x)
-
--- the row is the spelling of one of its kind with number i; a kind without numbers takes any
-unfoldable pub IsRow : ℕ → Kind → ℕ → Row → Type 0
-IsRow format kinds.Plan i row = row ≡ plan_row format
-IsRow format kinds.Node i row = IsNumbered IsName node_row i row
-IsRow format kinds.Link i row = IsNumbered IsSmallLink link_row i row
-IsRow format kinds.Monitor i row = (v : ℕ) × IsSmall v × (row ≡ monitor_row v)
-IsRow format kinds.Pocket i row = IsNumbered IsSmallPocket pocket_row i row
-IsRow format kinds.Path i row = IsNumbered IsNodeList path_row i row
-IsRow format kinds.Recipe i row = IsNumbered IsTermList recipe_row i row
-IsRow format kinds.End i row = row ≡ end_row
+-- the row tells an item of the kind, with the number i where the kind is numbered
+pub record IsRow (k : Kind) (i : ℕ) (row : Row) : Type 0 where
+  pub item : Item k
+  pub fits : IsItem k item
+  pub small : IsTrue (is_numbered k) → IsSmall i
+  pub row_is : row ≡ row_of k i item
 
 -- whether there is a kind, and it is k
 abbrev pub is_kind : Option Kind → Kind → Bool
 is_kind None k = false
 is_kind (Some j) k = place j == place k
+
+-- the row is the plan row of the newest format
+abbrev pub is_newest : Row → Bool
+is_newest row = is_kind (kind_of newest_format row) kinds.Plan && bytes_eq (field row 1) (decimal newest_format)
+
+-- the format of rows: the newest where the first is its plan row, else the oldest
+abbrev pub format_of : List Row → ℕ
+format_of [] = oldest_format
+format_of (row ∷ rows) = cond (is_newest row) newest_format oldest_format
 
 -- how many rows are of the kind
 unfoldable pub counted : ℕ → Kind → List Row → ℕ
@@ -60,7 +61,7 @@ pub record IsNext (format : ℕ) (before : List Row) (row : Row) : Type 0 where
   pub kind : Kind
   pub is_of : IsOf format before row kind
   pub in_order : is_in_order format before kind ≡ true
-  pub is_row : IsRow format kind (counted format kind before) row
+  pub is_row : IsRow kind (counted format kind before) row
 
 -- why a row is at fault
 pub data Why : Type 0 where
@@ -75,9 +76,9 @@ abbrev pub FaultAt : ℕ → List Row → Row → Why → Type 0
 FaultAt format before row Late = 0 < counted format kinds.End before
 FaultAt format before row Unknown = (counted format kinds.End before ≡ 0) × (kind_of format row ≡ None)
 FaultAt format before row Misplaced = (k : Kind) × IsOf format before row k × (is_in_order format before k ≡ false)
-FaultAt format before row Misspelled = (k : Kind) × IsOf format before row k × (is_in_order format before k ≡ true) × ((i : ℕ) → IsRow format k i row → ⊥)
+FaultAt format before row Misspelled = (k : Kind) × IsOf format before row k × (is_in_order format before k ≡ true) × ((i : ℕ) → IsRow k i row → ⊥)
 FaultAt format before row Misnumbered =
-    (k : Kind) × IsOf format before row k × (is_in_order format before k ≡ true) × ((i : ℕ) × IsRow format k i row) × (IsRow format k (counted format k before) row → ⊥)
+    (k : Kind) × IsOf format before row k × (is_in_order format before k ≡ true) × ((i : ℕ) × IsRow k i row) × (IsRow k (counted format k before) row → ⊥)
 
 -- from the rows before on, no row has a fault
 abbrev pub AreNext : ℕ → List Row → List Row → Type 0
@@ -109,6 +110,6 @@ IsFirstFaultIn format rows (faults.Order n) = IsFirstAt format rows n Misplaced 
 IsFirstFaultIn format rows (faults.Missing n) = IsUnended format rows n
 IsFirstFaultIn format rows (faults.After n) = IsFirstAt format rows n Late
 
--- the first fault of rows that are no plan
+-- the first fault of rows that are no plan, in the format that the first row tells
 abbrev pub IsFirstPlanFault : List Row → PlanFault → Type 0
-IsFirstPlanFault rows fault = IsFirstFaultIn 1 rows fault
+IsFirstPlanFault rows fault = IsFirstFaultIn (format_of rows) rows fault

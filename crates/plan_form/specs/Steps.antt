@@ -1,16 +1,11 @@
 -- What the steps on the way to a plan have made.
-use Rattle.std.specs.Prelude.{ℕ, ◌≡◌, ◌<◌, ℤ, pos, ◌+ℤ◌, List, [], length, map, AllPairs, Contains, Vec, slice_index_or}
+use Rattle.std.specs.Prelude.{ℕ, ◌≡◌, ◌<◌, ℤ, pos, ◌+ℤ◌, List, [], length, map, AllPairs, Contains, slice_index_or}
 use Rattle.std.specs.List.Sorted.{IsStrictlySortedBy}
 use Rattle.std.specs.Int.Signed.{◌≤ℤ◌}
-use Rattle.std.specs.Global.{Global}
 use Rattle.simple_path.specs.declared.recipe.Term.{Term}
 use Rattle.plan_form.specs.Building.{turned, sum_at}
 use Rattle.plan_form.specs.Order.{path_cmp}
 use Rattle.plan_form.specs.declared.sums.Tally.{Tally}
-
--- the lists that vectors hold
-abbrev pub lists_of : List (Vec ℕ Global) → List (List ℕ)
-lists_of vs = map (λ v. v.items) vs
 
 -- the path, turned, stands at that place
 abbrev pub IsNumberOf : List (List ℕ) → List ℕ → ℕ → Type 0

@@ -4,7 +4,7 @@ ghost use Rattle.simple_path.specs.Pools.{nodes_in};
 ghost use Rattle.plan_form.specs.Buildable.{as_part};
 ghost use Rattle.plan_form.specs.Held.{part_of};
 ghost use Rattle.plan_form.specs.Parts.{IsSmall};
-ghost use Rattle.plan_form.specs.Steps.{lists_of};
+ghost use Rattle.tomo_base.specs.SetLists.{lists_of};
 
 use crate::plan::HeldPocket;
 use simple_path::PathPool;

@@ -2,7 +2,7 @@
 ghost use Rattle.std.specs.Prelude.{◌≡◌, ◌<◌, ◌^◌, IfOk, length, map};
 ghost use Rattle.simple_path.specs.Pools.{nodes_in};
 ghost use Rattle.plan_form.specs.Building.{turned};
-ghost use Rattle.plan_form.specs.Steps.{lists_of};
+ghost use Rattle.tomo_base.specs.SetLists.{lists_of};
 
 use simple_path::PathPool;
 use std::alloc::Global;

@@ -10,7 +10,8 @@ pub enum PlanFault {
     #[error("no memory")]
     NoMemory,
     /// The row has a first field that names no kind of row, or not the number of fields of its kind; or it is a plan row of
-    /// another format, or a node row without a name of 1 to 64 bytes of UTF-8.
+    /// another format, a row of a kind that the format of the first row has not, or a node row without a name of 1 to 64 bytes of
+    /// UTF-8.
     #[error("row {0}: no row of a plan")]
     Record(u32),
     /// A field of the row is not the number, the list of nodes or the list of terms that it should be.

@@ -1,14 +1,14 @@
 //! Laws of the rows of plans. Each is a function with nothing to run, whose clause is the law.
-ghost use Rattle.plan_form.specs.Laws.{OneSpelling, PrintedHasNoFault, OneFault, PrintedIsReadBack, PrintedIsShort, GoodIsWithinLimits};
+ghost use Rattle.plan_form.specs.Laws.{OneReading, PlanHasNoFault, OneFault, PrintedIsReadBack, PrintedIsShort, GoodIsWithinLimits};
 
-/// Two well-formed plans with equal rows are equal.
-pub fn one_spelling()
-    ensures { OneSpelling }
+/// Rows are those of one well-formed plan at most, in whatever format.
+pub fn one_reading()
+    ensures { OneReading }
 {}
 
-/// The rows of a well-formed plan have no fault but want of memory.
-pub fn printed_plan_has_no_fault()
-    ensures { PrintedHasNoFault }
+/// The rows of a well-formed plan, in whatever format that can tell it, have no fault but want of memory.
+pub fn plan_has_no_fault()
+    ensures { PlanHasNoFault }
 {}
 
 /// Rows have at most one first fault apart from want of memory.
@@ -16,8 +16,8 @@ pub fn one_fault()
     ensures { OneFault }
 {}
 
-/// The bytes that print the rows of a well-formed plan are read back as these rows. They are the rows of no other well-formed plan
-/// and have no fault but want of memory, so the plan that is read is the plan that was printed.
+/// The bytes that print the rows of a well-formed plan are read back as these rows. They are the rows of no other well-formed plan,
+/// in whatever format, and have no fault but want of memory, so the plan that is read is the plan that was printed.
 pub fn printed_plan_is_read_back()
     ensures { PrintedIsReadBack }
 {

@@ -1,6 +1,8 @@
 //! Plans: what stands in one, how it is made of paths and recipes, and its rows.
 #![tactic(auto)]
 
+mod adding;
+mod arranging;
 mod build;
 mod copies;
 mod directions;
@@ -15,6 +17,7 @@ mod read;
 mod sums;
 mod write;
 
+pub use arranging::{Arranged, arrange};
 pub use faults::PlanFault;
 pub use numerals::number;
 pub use plan::Plan;

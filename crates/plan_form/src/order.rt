@@ -4,7 +4,8 @@ ghost use Rattle.std.specs.List.Sorted.{IsStrictlySortedBy};
 ghost use Rattle.simple_path.specs.Pools.{nodes_in};
 ghost use Rattle.plan_form.specs.Building.{turned};
 ghost use Rattle.plan_form.specs.Order.{path_cmp};
-ghost use Rattle.plan_form.specs.Steps.{lists_of, IsNumberOf, AreNumbers, AreOrdered};
+ghost use Rattle.plan_form.specs.Steps.{IsNumberOf, AreNumbers, AreOrdered};
+ghost use Rattle.tomo_base.specs.SetLists.{lists_of};
 
 use crate::copies::copy_paths;
 use crate::directions::{turn, turn_all};

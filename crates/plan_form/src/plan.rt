@@ -13,12 +13,14 @@ pub(crate) struct HeldPocket {
     pub(crate) nodes: Vec<u32>,
 }
 
-/// Names and links of a network, monitors, pockets, paths, and a recipe for each link; each as the list that stands in a plan
-/// file, well formed and otherwise unchecked.
+/// Names and links of a network, nodes that were forced to be monitors and nodes that were barred from it, monitors, pockets, paths,
+/// and a recipe for each link; each as the list that stands in a plan file, well formed and otherwise unchecked.
 #[derive(Drop)]
 pub struct Plan {
     pub(crate) names: Words,
     pub(crate) links: Vec<Link>,
+    pub(crate) forced: Vec<u32>,
+    pub(crate) barred: Vec<u32>,
     pub(crate) monitors: Vec<u32>,
     pub(crate) pockets: Vec<HeldPocket>,
     pub(crate) paths: PathPool,
@@ -35,6 +37,8 @@ impl Model for Plan {
     ghost view = { λ p. record {
       names = p.names;
       links = p.links.items;
+      forced = p.forced.items;
+      barred = p.barred.items;
       monitors = p.monitors.items;
       pockets = map part_of p.pockets.items;
       paths = p.paths;
@@ -44,6 +48,8 @@ impl Model for Plan {
     ghost invariant = { λ p. IsWellFormed (record {
       names = p.names;
       links = p.links.items;
+      forced = p.forced.items;
+      barred = p.barred.items;
       monitors = p.monitors.items;
       pockets = map part_of p.pockets.items;
       paths = p.paths;
@@ -66,6 +72,22 @@ impl Plan {
         ensures formed { IsWellFormed self.now }
     {
         &self.links
+    }
+
+    /// The nodes that had to be monitors, by their numbers. It takes no memory.
+    pub fn forced(&self) -> &[u32]
+        ensures forced { result.now ≡ self.now.forced }
+        ensures formed { IsWellFormed self.now }
+    {
+        &self.forced
+    }
+
+    /// The nodes that were not to be monitors, by their numbers. It takes no memory.
+    pub fn barred(&self) -> &[u32]
+        ensures barred { result.now ≡ self.now.barred }
+        ensures formed { IsWellFormed self.now }
+    {
+        &self.barred
     }
 
     /// The monitors, by their node numbers. It takes no memory.

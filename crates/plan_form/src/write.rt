@@ -2,8 +2,9 @@
 ghost use Rattle.std.specs.Prelude.{◌≡◌, ◌+◌, ◌<◌, ◌^◌, ◌++◌, [], ◌∷◌, IfOk, OnOk, length, map, decimal};
 ghost use Rattle.plan_form.specs.Spelling.{numbers_text, term_text, terms_text};
 ghost use Rattle.plan_form.specs.Held.{part_of};
-ghost use Rattle.plan_form.specs.PlanRows.{AddsRows, node_row, link_row, monitor_row, pocket_row, path_row, recipe_row, numbered, row_count, plan_rows as rows_of_plan};
+ghost use Rattle.plan_form.specs.PlanRows.{AddsRows, node_row, link_row, pocket_row, path_row, recipe_row, numbered, row_count, plan_rows as rows_of_plan};
 
+use crate::kinds::NEWEST_FORMAT;
 use crate::plan::{HeldPocket, Plan};
 use itoa::Buffer;
 use rows::Rows;
@@ -134,16 +135,16 @@ fn add_links(rows: &mut Rows, links: &[Link]) -> Result<(), NoMemory>
     Ok(())
 }
 
-// Adds a row for each monitor.
-fn add_monitors(rows: &mut Rows, monitors: &[u32]) -> Result<(), NoMemory>
+// Adds a row of the word for each node.
+fn add_nodes(rows: &mut Rows, word: &str, nodes: &[u32]) -> Result<(), NoMemory>
     requires none { rows.old.current ≡ [] }
-    requires room { length rows.old.closed + length monitors.now < 2 ^ 32 }
-    ensures rows { OnOk result (AddsRows rows.old rows.new (map monitor_row monitors.now)) }
-    ensures count { OnOk result (length rows.new.closed ≡ length rows.old.closed + length monitors.now) }
+    requires room { length rows.old.closed + length nodes.now < 2 ^ 32 }
+    ensures rows { OnOk result (AddsRows rows.old rows.new (numbered (λ _ v. word.now ∷ decimal v ∷ []) 0 nodes.now)) }
+    ensures count { OnOk result (length rows.new.closed ≡ length rows.old.closed + length nodes.now) }
 {
-    for v in monitors {
+    for v in nodes {
         let mut node = Buffer::new();
-        add_row(rows, &["monitor".as_bytes(), node.format(*v).as_bytes()])?;
+        add_row(rows, &[word.as_bytes(), node.format(*v).as_bytes()])?;
     }
     Ok(())
 }
@@ -193,18 +194,24 @@ fn add_recipes(rows: &mut Rows, recipes: &Recipes, text: &mut Vec<u8>) -> Result
     Ok(())
 }
 
-/// The rows of a plan: the names, the links, the monitors, the pockets, the paths and the recipes, between a first row with the
-/// format's number and a last row.
+/// The rows of a plan, in the newest format: the names, the links, the forced nodes, the barred nodes, the monitors, the pockets, the
+/// paths and the recipes, between a first row with the format's number and a last row.
 pub fn plan_rows(alloc: Global, plan: &Plan) -> Result<Rows, NoMemory>
     requires { row_count plan.now < 2 ^ 32 }
     ensures { IfOk result (λ rows. rows ≡ record { closed = rows_of_plan plan.now; current = [] }) }
 {
     let mut rows = Rows::new(alloc);
     let mut text = Vec::new(alloc);
-    add_row(&mut rows, &["plan".as_bytes(), "1".as_bytes()])?;
+    let mut number = Buffer::new();
+    add_row(
+        &mut rows,
+        &["plan".as_bytes(), number.format(NEWEST_FORMAT).as_bytes()],
+    )?;
     add_names(&mut rows, &plan.names)?;
     add_links(&mut rows, &plan.links)?;
-    add_monitors(&mut rows, &plan.monitors)?;
+    add_nodes(&mut rows, "must", &plan.forced)?;
+    add_nodes(&mut rows, "not", &plan.barred)?;
+    add_nodes(&mut rows, "monitor", &plan.monitors)?;
     add_pockets(&mut rows, &plan.pockets, &mut text)?;
     add_paths(&mut rows, &plan.paths, &mut text)?;
     add_recipes(&mut rows, &plan.recipes, &mut text)?;

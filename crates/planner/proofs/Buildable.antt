@@ -15,7 +15,7 @@ use Rattle.plan_form.specs.Buildable.{IsShort, IsBuildable}
 use Rattle.plan_form.proofs.Built.{renumbered_weight, renumbered_within, good_recipe}
 use Rattle.plan_form.proofs.Tied.{sum_alone}
 use Rattle.stpc_paths.specs.Measures.{IsTreeRecipe, AreTreeMeasures}
-use Rattle.planner.proofs.Merged.{merged_sum, merged_few}
+use Rattle.plan_form.proofs.Merged.{merged_sum, merged_few}
 
 -- as many terms with other path numbers
 length-renumbered : (f : ℕ → ℕ) (ts : List Term) → length (renumbered f ts) ≡ length ts
@@ -85,6 +85,8 @@ pub measured_buildable : (g : Network) (m : ℕ → Bool) (pool : List (List ℕ
 measured_buildable g m pool recipes s = record {
   paths = s.paths;
   one_each = s.one_recipe;
-  names = λ i l. (s.each i l).names;
-  short = λ paths i new sorted l rewritten. stays_short g i pool paths (get_or recipes i []) new (s.each i l) rewritten (omega (arith, l, s.one_recipe));
+  arranges = record {
+    names = λ i l. (s.each i l).names;
+    short = λ paths i new sorted l rewritten. stays_short g i pool paths (get_or recipes i []) new (s.each i l) rewritten (omega (arith, l, s.one_recipe));
+  };
 }

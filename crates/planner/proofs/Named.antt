@@ -10,7 +10,7 @@ use Rattle.plan_form.specs.Building.{sum_at}
 use Rattle.plan_form.specs.Tied.{terms_along, AreTied}
 use Rattle.plan_form.proofs.Tied.{within_along}
 use Rattle.planner.specs.Measures.{IsNamed}
-use Rattle.planner.proofs.Merged.{numbers_of, sum_found}
+use Rattle.plan_form.proofs.Merged.{numbers_of, sum_found}
 
 -- the terms of a recipe name paths that a recipe names
 own_named : (recipes : List (List Term)) (i : ℕ) → All (λ t. IsNamed recipes t.path) (get_or recipes i [])

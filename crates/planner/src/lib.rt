@@ -1,9 +1,7 @@
 //! Whole plans: monitors, pockets, paths and recipes for a topology.
 #![tactic(auto)]
 
-mod crossing;
 mod measures;
 mod plans;
 
-pub use crossing::cross_plan_for;
-pub use plans::{make_plan, plan_for};
+pub use plans::{Made, make_plan, make_plan_with, plan_for};

@@ -10,7 +10,8 @@ use Rattle.tomo_base.specs.declared.pocket.Pocket.{Pocket}
 use Rattle.tomo_base.specs.Network.{Network}
 use Rattle.tomo_base.specs.Sets.{has, minus}
 use Rattle.tomo_base.specs.Pockets.{AreHomePockets}
-use Rattle.tomo_base.proofs.Ascending.{place_in, has-at, All-from_has, below-all}
+use Rattle.tomo_base.proofs.Ascending.{place_in, has-at, All-from_has}
+use Rattle.tomo_base.proofs.Ranges.{below-all}
 use Rattle.tomo_base.proofs.Counts.{find}
 use Rattle.tomo_base.proofs.Members.{first_least}
 use Rattle.ident_laws.specs.Labels.{LabelsEnd}

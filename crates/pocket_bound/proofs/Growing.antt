@@ -104,3 +104,29 @@ module _ (g : Network) (m forced : ℕ → Bool) (xs : List ℕ) (i : ℕ) (l : 
         (here x ∙ (is_home x is_node).1 (λ s own. own.holds))
         (same_joined g.nodes (slice_index labels) (has nodes) (grown x) (i + 1) (slice_index new) here (subst (λ n. AreJoined n (slice_index labels) (has nodes) (i + 1) (slice_index new)) was.one_each joined));
   }
+
+module _ (g : Network) (m forced : ℕ → Bool) (xs : List ℕ) (i : ℕ) (l : i < length xs) (labels : List ℕ)
+    (was : AreHomeLabels g m (minus (has (take i xs)) forced) i labels) (held : forced (get_or xs i 0) ≡ true) where
+  -- a forced node adds no member
+  no_more : (y : ℕ) → minus (has (take (i + 1) xs)) forced y ≡ minus (has (take i xs)) forced y
+  no_more y = rw (has_next xs i 0 y l) (elim (cases_eq (get_or xs i 0) y) [
+    | inl e ↦ rw (sym (ap forced e) ∙ held) (neither (get_or xs i 0 == y) (has (take i xs) y))
+    | inr ne ↦ rw (ne_eqb (get_or xs i 0) y ne) refl
+  ])
+    where
+      neither : (a b : Bool) → ((a || b) && not true) ≡ (b && not true)
+      neither a b = grind arith
+
+  -- so the labels have gathered the same homes
+  pub passed : AreHomeLabels g m (minus (has (take (i + 1) xs)) forced) (i + 1) labels
+  passed = record {
+    one_each = was.one_each;
+    home = was.home;
+    homes = λ y ly more. was.homes y ly (sym (no_more y) ∙ more);
+    gather = record {
+      at_most = λ v lv. omega (arith, was.gather.at_most v lv);
+      placed = λ y ly more. was.gather.placed y ly (sym (no_more y) ∙ more);
+      owned = λ v lv one. (let of = was.gather.owned v lv one in (of.0, of.1, no_more of.0 ∙ of.2, of.3));
+      together = λ u v lu lv one same p whole. was.gather.together u v lu lv one same p (λ y ly done. whole y ly (no_more y ∙ done));
+    };
+  }

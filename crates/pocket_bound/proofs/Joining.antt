@@ -1,10 +1,11 @@
 -- Labels that the nodes of a home have, and a new label for all nodes with one of them.
-use Rattle.std.proofs.Common.{◌⊎◌, slice_index, ℕ, zero, suc, ◌≡◌, ◌+◌, ◌<◌, ◌≤◌, ◌↔◌, ◌||◌, ◌==◌, Bool, true, false, List, length, get_or, take, set, replicate, IsTrue, inl, inr, refl, sym, ◌∙◌, subst, arith, get_or-set_same, get_or-set_other}
+use Rattle.std.proofs.Common.{◌⊎◌, slice_index, ℕ, ◌≡◌, ◌+◌, ◌<◌, ◌≤◌, ◌↔◌, ◌||◌, ◌==◌, Bool, true, false, List, length, get_or, take, set, replicate, IsTrue, inl, inr, refl, sym, ◌∙◌, subst, arith, get_or-set_same, get_or-set_other}
 use Rattle.std.proofs.lemmas.Bool.{true≢false, cases_eq, or_cases, or_left, or_right, eqb-true, eq-eqb}
 use Rattle.tomo_base.specs.Search.{mark_of}
 use Rattle.tomo_base.specs.Sets.{has}
 use Rattle.tomo_base.proofs.Ascending.{has-more}
 use Rattle.ident_laws.specs.Labels.{IsMet, AreJoined}
+use Rattle.tomo_base.proofs.Marks.{bare_mark}
 
 -- the first of the list, and the next
 pub has_next : (xs : List ℕ) (i d w : ℕ) → i < length xs → has (take (i + 1) xs) w ≡ ((get_or xs i d == w) || has (take i xs) w)
@@ -14,15 +15,9 @@ has_next xs i d w l = sym (has-more (has (take i xs)) (λ v. false) xs i d (get_
 abbrev pub AreMet : ℕ → (ℕ → ℕ) → (ℕ → Bool) → List Bool → Type 0
 AreMet n label s marks = (l : ℕ) → IsTrue (mark_of marks l) ↔ IsMet n label s l
 
--- nothing is marked at first
-mark_none : (k l : ℕ) → mark_of (replicate k false) l ≡ false
-mark_none zero l = refl
-mark_none (suc k) zero = refl
-mark_none (suc k) (suc l) = mark_none k l
-
 -- and a set without nodes has no labels
 pub met_none : (n k : ℕ) (label : ℕ → ℕ) (s : ℕ → Bool) → ((v : ℕ) → s v ≡ false) → AreMet n label s (replicate k false)
-met_none n k label s none l = ((λ h. absurd (true≢false (sym h ∙ mark_none k l))), (λ met. absurd (true≢false (sym met.3 ∙ none met.1))))
+met_none n k label s none l = ((λ h. absurd (true≢false (sym h ∙ bare_mark k l))), (λ met. absurd (true≢false (sym met.3 ∙ none met.1))))
 
 module _ (n : ℕ) (label : ℕ → ℕ) (s next : ℕ → Bool) (v : ℕ) (lt : v < n) (one : (w : ℕ) → next w ≡ ((v == w) || s w)) (marks : List Bool) (are : AreMet n label s marks) where
   -- what the set meets the next meets

@@ -1,28 +1,34 @@
 // Labels of nodes: all nodes of a home pocket have the same one.
 ghost use Rattle.std.specs.Prelude.{◌≡◌, ◌<◌, ◌≤◌, ◌↔◌, ℕ, All, IfOk, OnOk, OnErr, IsTrue, length, slice_index};
+ghost use Rattle.std.specs.List.Sorted.{IsStrictlyIncreasing};
 ghost use Rattle.tomo_base.specs.BadParts.{NoBadPart};
+ghost use Rattle.tomo_base.specs.Limits.{graph_node_limit};
+ghost use Rattle.tomo_base.specs.Network.{IsGraph};
 ghost use Rattle.tomo_base.specs.Search.{mark_of};
-ghost use Rattle.tomo_base.specs.Sets.{has, without, minus, nothing};
+ghost use Rattle.tomo_base.specs.Sets.{has, minus};
 ghost use Rattle.ident_laws.specs.Labels.{IsMet, AreJoined};
-ghost use Rattle.pocket_bound.specs.HomeLabels.{AreHomeLabels};
+ghost use Rattle.pocket_bound.specs.HomeLabels.{AreHomeLabels, AreKept};
 
 use crate::homes::home;
-use ident_laws::home_pockets_by_labels;
 use std::alloc::{AllocError, Global};
 use tomo_base::{Graph, NoMemory, NodeSet};
 
-/// A label for each node: 0 where no home holds it, else one above 0 that the nodes of its home pocket share. Beside the homes, time
-/// linear in nodes for each monitor.
-pub fn labels(alloc: Global, g: &Graph, m: &NodeSet) -> Result<Vec<u32>, NoMemory>
-    requires good { NoBadPart g.now (has m.now) }
+/// A label for each node: 0 where no home of a node of the set outside `must` holds it, else one above 0 that the nodes of its home pocket
+/// share. Beside the homes, time linear in nodes for each node of the set.
+pub fn labels(alloc: Global, g: &Graph, m: &NodeSet, must: &NodeSet) -> Result<Vec<u32>, NoMemory>
     requires nodes { All (λ v. v < g.now.nodes) m.now }
-    requires kept { (x : ℕ) → x < g.now.nodes → IsTrue (minus (has m.now) nothing x) → NoBadPart g.now (without (has m.now) x) → ⊥ }
-    ensures { IfOk result (λ labels. AreHomeLabels g.now (has m.now) (minus (has m.now) nothing) (length m.now) labels.items) }
+    requires good { IsGraph g.now → NoBadPart g.now (has m.now) }
+    requires kept { IsGraph g.now → AreKept g.now (has m.now) (has must.now) }
+    ensures labels { IfOk result (λ labels. AreHomeLabels g.now (has m.now) (minus (has m.now) (has must.now)) (length m.now) labels.items) }
+    ensures ascending { OnOk result (IsStrictlyIncreasing m.now) }
+    ensures graph { IsGraph g.now }
 {
-    home_pockets_by_labels();
     let count = g.nodes();
     let mut labels: Vec<u32> = vec![in alloc; 0; count as usize]?;
     for (i, &x) in m.as_slice().iter().enumerate() {
+        if must.has(x) {
+            continue;
+        }
         let home = home(alloc, g, m, x)?;
         join(alloc, &mut labels, &home, i as u32 + 1)?;
     }
@@ -31,7 +37,7 @@ pub fn labels(alloc: Global, g: &Graph, m: &NodeSet) -> Result<Vec<u32>, NoMemor
 
 // Gives a new label to the nodes of a home, and to all nodes with the label of one of them.
 fn join(alloc: Global, labels: &mut [u32], home: &NodeSet, label: u32) -> Result<(), AllocError>
-    requires few { length labels.old ≤ 10000 }
+    requires few { length labels.old ≤ graph_node_limit }
     requires nodes { All (λ v. v < length labels.old) home.now }
     requires new { All (λ l. l < label) labels.old }
     ensures joined { OnOk result (AreJoined (length labels.old) (slice_index labels.old) (has home.now) label (slice_index labels.new)) }

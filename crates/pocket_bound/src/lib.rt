@@ -5,4 +5,4 @@ mod gathering;
 mod homes;
 mod labelling;
 
-pub use gathering::pockets;
+pub use gathering::{pockets, pockets_with};

@@ -5,9 +5,9 @@ use Rattle.std.proofs.lemmas.List.{append-nil, append_assoc, length_push, get_or
 use Rattle.rows.specs.Rows.{Row}
 use Rattle.round_reader.specs.declared.faults.RoundFault.{RoundFault}
 use Rattle.round_reader.specs.declared.faults.RoundFault.TheVariants.{NoMemory, Width, Number}
-use Rattle.round_reader.specs.Sums.{IsSum, AreSums, AreRounds, field_at}
+use Rattle.round_reader.specs.Sums.{IsSum, AreRounds, field_at, IsRound}
 use Rattle.round_reader.specs.Cuts.{cut_up}
-use Rattle.round_reader.specs.Faults.{IsFirstOther, IsRowFault, IsFirstFault}
+use Rattle.round_reader.specs.Faults.{IsFirstOther, IsRowFault, IsFirstRoundFault}
 
 -- a part ends within the parts
 pub part_within : (i k w : ℕ) → i < k → i * w + w ≤ k * w
@@ -55,7 +55,7 @@ added_more row k old sums v is a = record {
 }
 
 -- all of them
-pub added_all : (paths : ℕ) (row : Row) (k : ℕ) (old sums : List ℕ) → length row ≡ paths → k ≤ paths → paths ≤ k → AreAddedTo row k old sums → (new : List ℕ) × AreSums paths row new × (sums ≡ old ++ new)
+pub added_all : (paths : ℕ) (row : Row) (k : ℕ) (old sums : List ℕ) → length row ≡ paths → k ≤ paths → paths ≤ k → AreAddedTo row k old sums → (new : List ℕ) × IsRound paths row new × (sums ≡ old ++ new)
 added_all paths row k old sums width most least a = (
   a.new,
   record { width = width; one_each = omega (arith, a.size, most, least); each = λ j l. a.each j (omega (arith, l, least)) },
@@ -69,14 +69,14 @@ first_other row k old sums lt none a = record { within = lt; before = λ j l. (g
 -- the first i rows are rounds, and their sums stand one after the other
 pub record AreReadTo (paths : ℕ) (rows : List Row) (i : ℕ) (sums : List ℕ) : Type 0 where
   pub size : length sums ≡ i * paths
-  pub each : (k : ℕ) → k < i → AreSums paths (get_or rows k []) (take paths (drop (k * paths) sums))
+  pub each : (k : ℕ) → k < i → IsRound paths (get_or rows k []) (take paths (drop (k * paths) sums))
 
 -- at first none
 pub read_none : (paths : ℕ) (rows : List Row) → AreReadTo paths rows 0 []
 read_none paths rows = record { size = omega arith; each = λ k l. absurd (omega (arith, l)) }
 
 -- one more
-pub read_more : (paths : ℕ) (rows : List Row) (i : ℕ) (sums new : List ℕ) → AreSums paths (get_or rows i []) new → AreReadTo paths rows i sums → AreReadTo paths rows (i + 1) (sums ++ new)
+pub read_more : (paths : ℕ) (rows : List Row) (i : ℕ) (sums new : List ℕ) → IsRound paths (get_or rows i []) new → AreReadTo paths rows i sums → AreReadTo paths rows (i + 1) (sums ++ new)
 read_more paths rows i sums new are r = record {
   size = omega (arith, length-append sums new, r.size, are.one_each);
   each = λ k l. elim (cases_eq k i) [
@@ -101,7 +101,7 @@ read_all paths rows i n sums e count r = record {
 }
 
 -- the first row with a fault
-pub first_fault : (paths : ℕ) (rows : List Row) (i : ℕ) (sums : List ℕ) (fault : RoundFault) → i < length rows → AreReadTo paths rows i sums → IsRowFault paths (get_or rows i []) i fault → IsFirstFault paths rows fault
+pub first_fault : (paths : ℕ) (rows : List Row) (i : ℕ) (sums : List ℕ) (fault : RoundFault) → i < length rows → AreReadTo paths rows i sums → IsRowFault paths (get_or rows i []) i fault → IsFirstRoundFault paths rows fault
 first_fault paths rows i sums NoMemory lt r here = tt
 first_fault paths rows i sums (Width w) lt r here = record { place = i; within = lt; before = λ j l. (take paths (drop (j * paths) sums), r.each j l); here = here }
 first_fault paths rows i sums (Number w f) lt r here = record { place = i; within = lt; before = λ j l. (take paths (drop (j * paths) sums), r.each j l); here = here }

@@ -3,7 +3,7 @@ use Rattle.std.specs.Prelude.{ℕ, ◌≡◌, ◌≢◌, ◌+◌, ◌<◌, List,
 use Rattle.rows.specs.Rows.{Row}
 use Rattle.round_reader.specs.declared.faults.RoundFault.{RoundFault}
 use Rattle.round_reader.specs.declared.faults.RoundFault.TheVariants.{NoMemory, Width, Number}
-use Rattle.round_reader.specs.Sums.{IsSum, AreSums, field_at}
+use Rattle.round_reader.specs.Sums.{IsSum, field_at, IsRound}
 
 -- the field at place k is the first that is no sum
 pub record IsFirstOther (row : Row) (k : ℕ) : Type 0 where
@@ -21,11 +21,11 @@ IsRowFault paths row i (Number r f) = (r ≡ i + 1) × (length row ≡ paths) ×
 pub record IsFaultAt (paths : ℕ) (rows : List Row) (fault : RoundFault) : Type 0 where
   pub place : ℕ
   pub within : place < length rows
-  pub before : (j : ℕ) → j < place → (sums : List ℕ) × AreSums paths (slice_index_or rows j []) sums
+  pub before : (j : ℕ) → j < place → (sums : List ℕ) × IsRound paths (slice_index_or rows j []) sums
   pub here : IsRowFault paths (slice_index_or rows place []) place fault
 
 -- the first fault of the rows
-abbrev pub IsFirstFault : ℕ → List Row → RoundFault → Type 0
-IsFirstFault paths rows NoMemory = ⊤
-IsFirstFault paths rows (Width r) = IsFaultAt paths rows (Width r)
-IsFirstFault paths rows (Number r f) = IsFaultAt paths rows (Number r f)
+abbrev pub IsFirstRoundFault : ℕ → List Row → RoundFault → Type 0
+IsFirstRoundFault paths rows NoMemory = ⊤
+IsFirstRoundFault paths rows (Width r) = IsFaultAt paths rows (Width r)
+IsFirstRoundFault paths rows (Number r f) = IsFaultAt paths rows (Number r f)

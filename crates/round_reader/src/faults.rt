@@ -11,7 +11,8 @@ pub enum RoundFault {
     /// The row has not as many fields as there are paths.
     #[error("row {0}: not one field for each path")]
     Width(u32),
-    /// The field of the row is no sum: it has not 1 to 20 digits between blanks, or is more than 10^15.
+    /// The field of the row is no sum: it has not 1 to 20 digits between blanks, or is more than `SUM_LIMIT`.
+    /// The message takes no constant, so the number stands in it.
     #[error("row {0}, field {1}: no number of at most 10^15")]
     Number(u32, u32),
 }

@@ -3,15 +3,13 @@ ghost use Rattle.std.specs.Prelude.{ℕ, IfSome, IfNone};
 ghost use Rattle.round_reader.specs.Sums.{IsSum};
 
 use rows::trimmed;
+use tomo_base::SUM_LIMIT;
 
 // How many digits a sum may have.
 const DIGIT_LIMIT: usize = 20;
 
-// The largest sum.
-const SUM_LIMIT: u64 = 1_000_000_000_000_000;
-
 /// The sum in a field: what it holds without the spaces and tabs at its ends, where that is 1 to 20 digits with a value of at most
-/// 10^15.
+/// `SUM_LIMIT`.
 pub(crate) fn sum_in(field: &[u8]) -> Option<u64>
     ensures some { IfSome result (IsSum field.now) }
     ensures none { IfNone result ((v : ℕ) → IsSum field.now v → ⊥) }

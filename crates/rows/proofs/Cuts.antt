@@ -3,7 +3,8 @@ use Rattle.std.proofs.Common.{◌≡◌, sym, ap, refl, ℕ, ◌+◌, ◌-◌, �
 use Rattle.std.proofs.lemmas.Grind.{common_steps}
 use Rattle.csv.specs.Records.{Rising, last_end}
 use Rattle.csv.proofs.RecordFacts.{rising-last, rising-first, rising-end, rising-more, last-append}
-use Rattle.rows.specs.Layout.{cut, view_of, IsCut}
+use Rattle.rows.specs.Layout.{cut, view_of, IsLaidOut}
+use Rattle.std.proofs.lemmas.List.{take_rest}
 
 -- a part that lies in the front isn't changed by what follows
 take-part : {A : Type 0} (xs more : List A) (start n : ℕ) → start ≤ length xs → start + n ≤ length xs → take n (drop start (xs ++ more)) ≡ take n (drop start xs)
@@ -25,15 +26,11 @@ unfolding cut
 cut-length start [] xs = refl
 cut-length start (end ∷ ends) xs = omega (arith, cut-length end ends xs)
 
--- a part up to the end
-take-all-of : {A : Type 0} (xs : List A) (start : ℕ) → take (length xs - start) (drop start xs) ≡ drop start xs
-take-all-of xs start = grind (arith, common_steps)
-
 -- one more place, at the end, cuts off what is left
 pub cut-end : {A : Type 0} (start : ℕ) (ends : List ℕ) (xs : List A)
     → cut start (ends ++ length xs ∷ []) xs ≡ cut start ends xs ++ drop (last_end start ends) xs ∷ []
 unfolding cut last_end
-cut-end start [] xs = rw (take-all-of xs start) refl
+cut-end start [] xs = rw (take_rest xs start) refl
 cut-end start (end ∷ ends) xs = ap (λ r. take (end - start) (drop start xs) ∷ r) (cut-end end ends xs)
 
 -- what is left after a front
@@ -44,7 +41,7 @@ drop-kept : {A : Type 0} (xs ys : List A) (n : ℕ) → n ≤ length xs → drop
 drop-kept xs ys n le = grind (arith, common_steps)
 
 -- the bytes and the places after a field is added
-pub field-view : (bytes ends row_ends more : List ℕ) → IsCut bytes ends row_ends
+pub field-view : (bytes ends row_ends more : List ℕ) → IsLaidOut bytes ends row_ends
     → view_of (bytes ++ more) (ends ++ length (bytes ++ more) ∷ []) row_ends ≡ record (view_of bytes ends row_ends) { current = (view_of bytes ends row_ends).current ++ more ∷ [] }
 field-view bytes ends row_ends more is =
     let grown : Rising 0 ends (length (bytes ++ more)) = rising-more 0 ends (length bytes) _ is.fields (rw length-append (omega arith)) in
@@ -54,7 +51,7 @@ field-view bytes ends row_ends more is =
     let last : last_end 0 row_ends ≤ length (cut 0 ends bytes) = rising-last 0 row_ends _ rows in
     rw (fields, cut-more 0 row_ends (cut 0 ends bytes) (more ∷ []) rows, drop-kept (cut 0 ends bytes) (more ∷ []) (last_end 0 row_ends) last) refl
 
-pub field-cut : (bytes ends row_ends more : List ℕ) → IsCut bytes ends row_ends → IsCut (bytes ++ more) (ends ++ length (bytes ++ more) ∷ []) row_ends
+pub field-cut : (bytes ends row_ends more : List ℕ) → IsLaidOut bytes ends row_ends → IsLaidOut (bytes ++ more) (ends ++ length (bytes ++ more) ∷ []) row_ends
 field-cut bytes ends row_ends more is = record {
   fields = rising-end 0 ends _ (rising-more 0 ends (length bytes) _ is.fields (rw length-append (omega arith)));
   whole = last-append 0 ends _;
@@ -62,18 +59,18 @@ field-cut bytes ends row_ends more is = record {
 }
 
 -- the places after a row is closed
-pub close-view : (bytes ends row_ends : List ℕ) → IsCut bytes ends row_ends
+pub close-view : (bytes ends row_ends : List ℕ) → IsLaidOut bytes ends row_ends
     → view_of bytes ends (row_ends ++ length ends ∷ []) ≡ record { closed = (view_of bytes ends row_ends).closed ++ (view_of bytes ends row_ends).current ∷ []; current = [] }
 close-view bytes ends row_ends is =
     let count : length ends ≡ length (cut 0 ends bytes) = sym (cut-length 0 ends bytes) in
     let none : drop (length (cut 0 ends bytes)) (cut 0 ends bytes) ≡ [] = grind (arith, common_steps) in
     rw (last-append 0 row_ends (length ends), count) (rw (cut-end 0 row_ends (cut 0 ends bytes), none) refl)
 
-pub close-cut : (bytes ends row_ends : List ℕ) → IsCut bytes ends row_ends → IsCut bytes ends (row_ends ++ length ends ∷ [])
+pub close-cut : (bytes ends row_ends : List ℕ) → IsLaidOut bytes ends row_ends → IsLaidOut bytes ends (row_ends ++ length ends ∷ [])
 close-cut bytes ends row_ends is = record { fields = is.fields; whole = is.whole; rows = rising-end 0 row_ends _ is.rows }
 
 -- no bytes and no places
-pub none-cut : IsCut [] [] []
+pub none-cut : IsLaidOut [] [] []
 unfolding Rising last_end
 none-cut = record { fields = omega arith; whole = refl; rows = omega arith }
 
@@ -113,7 +110,7 @@ part-length : {A : Type 0} (xs : List A) (m n : ℕ) → m + n ≤ length xs →
 part-length xs m n le = grind (arith, common_steps)
 
 -- how many fields a row has
-pub row-width : (bytes ends row_ends : List ℕ) (i : ℕ) → IsCut bytes ends row_ends → i < length row_ends
+pub row-width : (bytes ends row_ends : List ℕ) (i : ℕ) → IsLaidOut bytes ends row_ends → i < length row_ends
     → length (get_or (view_of bytes ends row_ends).closed i []) ≡ get_or row_ends i 0 - start_at row_ends i
 row-width bytes ends row_ends i is lt =
     let (low, high) = rising-at 0 row_ends (length ends) i is.rows lt in
@@ -121,7 +118,7 @@ row-width bytes ends row_ends i is lt =
     rw (cut-at 0 row_ends (cut 0 ends bytes) i lt) (part-length (cut 0 ends bytes) (start_at row_ends i) _ (omega (arith, low, high, count)))
 
 -- the bytes of a field of a row
-pub row-field : (bytes ends row_ends : List ℕ) (i k : ℕ) → IsCut bytes ends row_ends → i < length row_ends → start_at row_ends i + k < get_or row_ends i 0
+pub row-field : (bytes ends row_ends : List ℕ) (i k : ℕ) → IsLaidOut bytes ends row_ends → i < length row_ends → start_at row_ends i + k < get_or row_ends i 0
     → get_or (get_or (view_of bytes ends row_ends).closed i []) k []
     ≡ take (get_or ends (start_at row_ends i + k) 0 - start_at ends (start_at row_ends i + k)) (drop (start_at ends (start_at row_ends i + k)) bytes)
 row-field bytes ends row_ends i k is lt lt2 =
@@ -130,7 +127,7 @@ row-field bytes ends row_ends i k is lt lt2 =
     (cut-at 0 ends bytes (start_at row_ends i + k) (omega (arith, high)))
 
 -- the place of a field is one of the places
-pub place-below : (bytes ends row_ends : List ℕ) (i k : ℕ) → IsCut bytes ends row_ends → i < length row_ends → start_at row_ends i + k < get_or row_ends i 0 → start_at row_ends i + k < length ends
+pub place-below : (bytes ends row_ends : List ℕ) (i k : ℕ) → IsLaidOut bytes ends row_ends → i < length row_ends → start_at row_ends i + k < get_or row_ends i 0 → start_at row_ends i + k < length ends
 place-below bytes ends row_ends i k is lt lt2 =
     let high = (rising-at 0 row_ends (length ends) i is.rows lt).1 in
     omega (arith, high)

@@ -1,5 +1,5 @@
 -- The records that a reader reaches one by one are the records of the text.
-use Rattle.std.proofs.Common.{◌≡◌, sym, ap, refl, subst, ℕ, suc, zero, ◌+◌, ◌<◌, ◌≤◌, List, [], ◌∷◌, ◌++◌, length, true, false, Option, Some, None, arith, length-append, inl, inr, unwrap_or, ◌==◌}
+use Rattle.std.proofs.Common.{◌≡◌, sym, ap, refl, subst, ℕ, suc, zero, ◌+◌, ◌<◌, ◌≤◌, List, [], ◌∷◌, length, true, false, Some, None, arith, length-append, inl, inr, ◌==◌}
 use Rattle.std.proofs.lemmas.Bool.{cases_Bool}
 use Rattle.csv.specs.Machine.{next_record, step, in_field, start_field, start_record, ends_with, is_end, ends_at_end, fields_after, field_after, Read}
 use Rattle.csv.specs.declared.parser.Terminator.TheVariants as term
@@ -10,10 +10,7 @@ use Rattle.csv.specs.declared.parser.State.{State}
 use Rattle.csv.specs.declared.parser.State.TheVariants as st
 use Rattle.csv.specs.declared.parser.Action.{Action}
 use Rattle.csv.specs.declared.parser.Action.TheVariants as act
-
--- two reads are equal where their options are
-pub some-inj : (x y : Read) → Some x ≡ Some y → x ≡ y
-some-inj x y e = ap (λ (o : Option Read). unwrap_or o x) e
+use Rattle.tomo_base.proofs.Lists.{some_inj}
 
 -- the byte that ends a record adds a field
 end-fields : (a : Action) (fields : List (List ℕ)) (field : List ℕ) → is_end a ≡ true → 0 < length (fields_after a fields field)
@@ -29,12 +26,12 @@ HasField q = 0 < length q.0
 pub read-filled : (cfg : Config) (s : State) (fields : List (List ℕ)) (field xs : List ℕ) (q : Read) → next_record cfg s fields field xs ≡ Some q → 0 < length q.0
 unfolding next_record
 read-filled cfg s fields field [] q e = elim (cases_Bool (ends_at_end s)) [
-  | inl holds ↦ let same = some-inj (fields ++ (field ∷ []), st.StartRecord, []) q (rw holds at e) in
+  | inl holds ↦ let same = some_inj (rw holds at e) in
       subst HasField same (rw length-append (omega arith))
   | inr fails ↦ cc (rw fails at e)
 ]
 read-filled cfg s fields field (c ∷ rest) q e = elim (cases_Bool (is_end (step cfg s c).1)) [
-  | inl holds ↦ let same = some-inj (fields_after (step cfg s c).1 fields field, (step cfg s c).0, rest) q (rw holds at e) in
+  | inl holds ↦ let same = some_inj (rw holds at e) in
       subst HasField same (end-fields (step cfg s c).1 fields field holds)
   | inr fails ↦ read-filled cfg (step cfg s c).0 (fields_after (step cfg s c).1 fields field) (field_after (step cfg s c).1 c field) rest q (rw fails at e)
 ]
@@ -99,12 +96,12 @@ pub record Shortens (s : State) (xs : List ℕ) (q : Read) : Type 0 where
 pub read-shortens : (s : State) (fields : List (List ℕ)) (field xs : List ℕ) (q : Read) → next_record default_config s fields field xs ≡ Some q → Shortens s xs q
 unfolding next_record
 read-shortens s fields field [] q e = elim (cases_Bool (ends_at_end s)) [
-  | inl holds ↦ let same = some-inj (fields ++ (field ∷ []), st.StartRecord, []) q (rw holds at e) in
+  | inl holds ↦ let same = some_inj (rw holds at e) in
       subst (λ q. Shortens s [] q) same (record { between = refl; no_longer = omega arith; shorter = λ fails. cc (holds, fails) })
   | inr fails ↦ cc (rw fails at e)
 ]
 read-shortens s fields field (c ∷ rest) q e = elim (cases_Bool (is_end (step default_config s c).1)) [
-  | inl holds ↦ let same = some-inj (fields_after (step default_config s c).1 fields field, (step default_config s c).0, rest) q (rw holds at e) in
+  | inl holds ↦ let same = some_inj (rw holds at e) in
       subst (λ q. Shortens s (c ∷ rest) q) same (record { between = ended s c holds; no_longer = omega arith; shorter = λ fails. omega arith })
   | inr fails ↦
       let more = read-shortens (step default_config s c).0 (fields_after (step default_config s c).1 fields field) (field_after (step default_config s c).1 c field) rest q (rw fails at e) in

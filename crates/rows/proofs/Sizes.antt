@@ -6,11 +6,11 @@ use Rattle.csv.specs.Machine.{next_record, step, is_end, ends_at_end, fields_aft
 use Rattle.csv.specs.Reading.{default_config, strip_bom, Reached, NextIs, ReadsNext, is_bom}
 use Rattle.csv.specs.declared.parser.Config.{Config}
 use Rattle.csv.specs.declared.parser.State.{State}
-use Rattle.csv.specs.declared.parser.State.TheVariants as st
 use Rattle.csv.specs.declared.parser.Action.{Action}
 use Rattle.csv.specs.declared.parser.Action.TheVariants as act
 use Rattle.rows.specs.Rows.{Row, row_bytes}
-use Rattle.rows.proofs.Records.{some-inj, read-filled, read-shortens}
+use Rattle.rows.proofs.Records.{read-filled, read-shortens}
+use Rattle.tomo_base.proofs.Lists.{some_inj}
 
 -- the fields so far and the field at hand, each field counted as one more than its bytes
 abbrev size_of : Row → List ℕ → ℕ
@@ -32,14 +32,14 @@ pub read-size : (cfg : Config) (s : State) (fields : Row) (field xs : List ℕ) 
     → size_of q.0 [] + length q.2 ≤ size_of fields field + length xs + 1
 unfolding next_record
 read-size cfg s fields field [] q e = elim (cases_Bool (ends_at_end s)) [
-  | inl holds ↦ let same = some-inj (fields ++ (field ∷ []), st.StartRecord, []) q (rw holds at e) in
+  | inl holds ↦ let same = some_inj (rw holds at e) in
       subst (λ (q : Read). size_of q.0 [] + length q.2 ≤ size_of fields field + length {A = ℕ} [] + 1) same (omega (arith, size-ended fields field))
   | inr fails ↦ cc (rw fails at e)
 ]
 read-size cfg s fields field (c ∷ rest) q e =
     let grown = size-grown (step cfg s c).1 c fields field in
     elim (cases_Bool (is_end (step cfg s c).1)) [
-      | inl holds ↦ let same = some-inj (fields_after (step cfg s c).1 fields field, (step cfg s c).0, rest) q (rw holds at e) in
+      | inl holds ↦ let same = some_inj (rw holds at e) in
           subst (λ (q : Read). size_of q.0 [] + length q.2 ≤ size_of fields field + length (c ∷ rest) + 1) same (omega (arith, grown))
       | inr fails ↦
           let more = read-size cfg (step cfg s c).0 (fields_after (step cfg s c).1 fields field) (field_after (step cfg s c).1 c field) rest q (rw fails at e) in

@@ -16,7 +16,7 @@ view_of bytes ends row_ends = record {
 }
 
 -- what the places keep: they are in order, and the last field ends with the bytes
-pub record IsCut (bytes ends row_ends : List ℕ) : Type 0 where
+pub record IsLaidOut (bytes ends row_ends : List ℕ) : Type 0 where
   pub fields : Rising 0 ends (length bytes)
   pub whole : last_end 0 ends ≡ length bytes
   pub rows : Rising 0 row_ends (length ends)

@@ -19,7 +19,7 @@ abbrev pub IsFullRow : Row → Type 0
 IsFullRow row = (0 < length row) × (length row < 2 ^ 32)
 
 -- what each list of rows keeps: a closed row has a field, and all counts fit 32 bits
-pub record IsCounted (rows : RowList) : Type 0 where
+pub record IsCountable (rows : RowList) : Type 0 where
   pub count : length rows.closed < 2 ^ 32
   pub each : All IsFullRow rows.closed
   pub current : length rows.current < 2 ^ 32

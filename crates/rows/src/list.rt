@@ -20,15 +20,15 @@ pub struct Rows {
 }
 
 impl Model for Rows {
-    ghost use Rattle.rows.specs.Rows.{RowList, IsCounted};
-    ghost use Rattle.rows.specs.Layout.{view_of, IsCut};
+    ghost use Rattle.rows.specs.Rows.{RowList, IsCountable};
+    ghost use Rattle.rows.specs.Layout.{view_of, IsLaidOut};
 
     ghost Value = { RowList };
 
     ghost view = { λ a. view_of a.bytes.items a.ends.items a.row_ends.items };
 
-    ghost invariant = { λ a. IsCut a.bytes.items a.ends.items a.row_ends.items
-        × IsCounted (view_of a.bytes.items a.ends.items a.row_ends.items) };
+    ghost invariant = { λ a. IsLaidOut a.bytes.items a.ends.items a.row_ends.items
+        × IsCountable (view_of a.bytes.items a.ends.items a.row_ends.items) };
 }
 
 impl Rows {

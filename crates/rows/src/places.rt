@@ -1,6 +1,6 @@
 // Where the rows and the fields of a list of rows stand in its bytes.
 ghost use Rattle.std.specs.Prelude.{◌≡◌, ◌+◌, ◌<◌, ◌≤◌, [], ◌∷◌, length, slice_index, slice_index_or};
-ghost use Rattle.rows.specs.Layout.{view_of, IsCut};
+ghost use Rattle.rows.specs.Layout.{view_of, IsLaidOut};
 
 // Where the part at a place starts.
 fn start_at(ends: &[usize], place: usize) -> usize
@@ -12,7 +12,7 @@ fn start_at(ends: &[usize], place: usize) -> usize
 
 // How many fields a row has.
 pub fn width_at(_bytes: &[u8], ends: &[usize], row_ends: &[usize], row: usize) -> usize
-    requires cut { IsCut _bytes.now ends.now row_ends.now }
+    requires cut { IsLaidOut _bytes.now ends.now row_ends.now }
     requires row { row < length row_ends.now }
     ensures { result ≡ length (slice_index_or
         (view_of _bytes.now ends.now row_ends.now).closed row []) }
@@ -30,7 +30,7 @@ pub fn field_at<'a>(
     row: usize,
     field: usize,
 ) -> &'a [u8]
-    requires cut { IsCut bytes.now ends.now row_ends.now }
+    requires cut { IsLaidOut bytes.now ends.now row_ends.now }
     requires row { row < length row_ends.now }
     requires field { slice_index (0 ∷ row_ends.now) row + field < slice_index row_ends.now row }
     ensures { result.now ≡ slice_index_or (slice_index_or

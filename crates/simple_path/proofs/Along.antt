@@ -1,8 +1,9 @@
 -- The sum along a walk, step by step, and the delay of the one link between two nodes.
-use Rattle.std.proofs.Common.{◌≡◌, ℕ, zero, suc, ◌+◌, ◌*◌, ◌^◌, ◌<◌, ◌≤◌, true, false, List, [], ◌∷◌, length, get_or, drop, take, ◌-◌, IsTrue, slice_get, Some, None, refl, sym, ap, ◌∙◌, subst, inl, inr, arith}
+use Rattle.std.proofs.Common.{◌≡◌, ℕ, zero, suc, ◌+◌, ◌*◌, ◌<◌, ◌≤◌, true, false, List, [], ◌∷◌, length, get_or, drop, take, ◌-◌, IsTrue, slice_get, Some, None, refl, sym, ap, ◌∙◌, subst, inl, inr, arith}
 use Rattle.std.proofs.lemmas.Bool.{or_parts, cases_Bool, both_ways}
 use Rattle.std.proofs.lemmas.Bool.Decides.{nat_tests}
 use Rattle.std.proofs.lemmas.List.{drop_more, drop_all, take_all}
+use Rattle.tomo_base.specs.Limits.{summand_limit}
 use Rattle.tomo_base.specs.declared.graph.Link.{Link}
 use Rattle.tomo_base.specs.Network.{Network, linked, joins, any_joins, AreLinks}
 use Rattle.tomo_base.specs.Table.{JoinsAt}
@@ -47,10 +48,10 @@ one_delay n (x ∷ ls) (y ∷ d) (suc i) a b e are at l = elim (cases_Bool (join
 pub record Summing (g : Network) (d : List ℕ) (a : ℕ) (p : List ℕ) (k from sum : ℕ) : Type 0 where
   pub whole : sum + sum_from (delay_between g.links d) from (drop k p) ≡ sum_from (delay_between g.links d) a p
   pub steps : StepsFrom g from (drop k p)
-  pub small : sum ≤ k * 10 ^ 15
+  pub small : sum ≤ k * summand_limit
 
 -- one step more
-pub summed : (g : Network) (d : List ℕ) (a : ℕ) (p : List ℕ) (k from sum x e : ℕ) → k < length p → x ≡ delay_between g.links d from (get_or p k e) → x ≤ 10 ^ 15 → Summing g d a p k from sum → Summing g d a p (k + 1) (get_or p k e) (sum + x)
+pub summed : (g : Network) (d : List ℕ) (a : ℕ) (p : List ℕ) (k from sum x e : ℕ) → k < length p → x ≡ delay_between g.links d from (get_or p k e) → x ≤ summand_limit → Summing g d a p k from sum → Summing g d a p (k + 1) (get_or p k e) (sum + x)
 unfolding sum_from
 summed g d a p k from sum x e l is le s =
     let f : ℕ → ℕ → ℕ = delay_between g.links d in

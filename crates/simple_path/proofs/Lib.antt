@@ -1,5 +1,3 @@
 pub mod Pools
 pub mod Regions
-pub mod Paths
 pub mod Along
-pub mod Short

@@ -5,7 +5,7 @@ use Rattle.std.proofs.lemmas.List.{map-append, length-map, take-map, get_or-map,
 use Rattle.std.proofs.Math.Seq.{drop-append_seam}
 use Rattle.simple_path.specs.declared.span.Span.{Span}
 use Rattle.simple_path.specs.Pools.{nodes_in}
-use Rattle.simple_path.specs.Region.{path_at, paths_of, AreInRow, end_from, IsRegion}
+use Rattle.simple_path.specs.Region.{AreInRow, end_from, IsRegion, path_in, paths_in}
 
 -- no span ends before it begins
 end_most : (place : ℕ) (spans : List Span) → AreInRow place spans → place ≤ end_from place spans
@@ -21,7 +21,7 @@ span_in place (s ∷ spans) zero d are l = (omega (arith, are.0, are.1), end_mos
 span_in place (s ∷ spans) (suc k) d are l = span_in s.end spans k d are.2 (omega (arith, l))
 
 -- two regions that agree up to the end of all hold the same paths
-same_paths : (xs ys : List ℕ) (place : ℕ) (spans : List Span) → AreInRow place spans → ((a b : ℕ) → a ≤ b → b ≤ end_from place spans → slice_range xs a b ≡ slice_range ys a b) → paths_of xs spans ≡ paths_of ys spans
+same_paths : (xs ys : List ℕ) (place : ℕ) (spans : List Span) → AreInRow place spans → ((a b : ℕ) → a ≤ b → b ≤ end_from place spans → slice_range xs a b ≡ slice_range ys a b) → paths_in xs spans ≡ paths_in ys spans
 unfolding end_from
 same_paths xs ys place [] are agree = refl
 same_paths xs ys place (s ∷ spans) are agree = ap₂ ◌∷◌ (agree s.start s.end (omega (arith, are.0, are.1)) (end_most s.end spans are.2)) (same_paths xs ys s.end spans are.2 agree)
@@ -68,10 +68,10 @@ region_more nodes path spans s region begins ends paths room = record {
 }
 
 -- has one path more, and the earlier ones as they were
-pub paths_more : (nodes path : List ℕ) (spans : List Span) (s : Span) → IsRegion nodes spans → s.start ≡ length nodes → s.end ≡ length (nodes ++ path) → paths_of (nodes ++ path) (spans ++ s ∷ []) ≡ paths_of nodes spans ++ path ∷ []
+pub paths_more : (nodes path : List ℕ) (spans : List Span) (s : Span) → IsRegion nodes spans → s.start ≡ length nodes → s.end ≡ length (nodes ++ path) → paths_in (nodes ++ path) (spans ++ s ∷ []) ≡ paths_in nodes spans ++ path ∷ []
 paths_more nodes path spans s region begins ends =
-    let new : path_at (nodes ++ path) s ≡ path = ap₂ (slice_range (nodes ++ path)) begins (ends ∙ length-append nodes path) ∙ part_last nodes path in
-    map-append (path_at (nodes ++ path)) spans (s ∷ [])
+    let new : path_in (nodes ++ path) s ≡ path = ap₂ (slice_range (nodes ++ path)) begins (ends ∙ length-append nodes path) ∙ part_last nodes path in
+    map-append (path_in (nodes ++ path)) spans (s ∷ [])
     ∙ ap₂ (λ (ps : List (List ℕ)) (p : List ℕ). ps ++ p ∷ []) (same_paths (nodes ++ path) nodes 0 spans region.in_row (λ a b le l. part-append nodes path a b le (omega (arith, l, region.whole)))) new
 
 -- ---- fewer paths
@@ -113,36 +113,40 @@ region_less nodes spans n end region is =
     length-take-most (suc i) (x ∷ xs) = omega (arith, length-take-most i xs)
 
 -- has those paths
-pub paths_less : (nodes : List ℕ) (spans : List Span) (n end : ℕ) → IsRegion nodes spans → end ≡ end_from 0 (take n spans) → paths_of (take end nodes) (take n spans) ≡ take n (paths_of nodes spans)
+pub paths_less : (nodes : List ℕ) (spans : List Span) (n end : ℕ) → IsRegion nodes spans → end ≡ end_from 0 (take n spans) → paths_in (take end nodes) (take n spans) ≡ take n (paths_in nodes spans)
 paths_less nodes spans n end region is =
     same_paths (take end nodes) nodes 0 (take n spans) (in_row-take n 0 spans region.in_row) (λ a b le l. part-take nodes end a b le (omega (arith, l, is))) ∙ sym (take-map _ _ _)
 
 -- ---- what is read
 
 -- there are as many paths as spans
-pub length-paths : (nodes : List ℕ) (spans : List Span) → length (paths_of nodes spans) ≡ length spans
-length-paths nodes spans = length-map spans (path_at nodes)
+pub length-paths : (nodes : List ℕ) (spans : List Span) → length (paths_in nodes spans) ≡ length spans
+length-paths nodes spans = length-map spans (path_in nodes)
 
 -- a span that was read stands in the region, and holds the path of its number
-pub span_read : (nodes : List ℕ) (spans : List Span) (k : ℕ) (s : Span) → IsRegion nodes spans → k < length spans → s ≡ get_or spans k s → (s.start ≤ s.end) × (s.end ≤ length nodes) × (path_at nodes s ≡ slice_index_or (paths_of nodes spans) k [])
+pub span_read : (nodes : List ℕ) (spans : List Span) (k : ℕ) (s : Span) → IsRegion nodes spans → k < length spans → s ≡ get_or spans k s → (s.start ≤ s.end) × (s.end ≤ length nodes) × (path_in nodes s ≡ slice_index_or (paths_in nodes spans) k [])
 span_read nodes spans k s region l is =
     let at = span_in 0 spans k s region.in_row l in
     let ordered : s.start ≤ s.end = subst (λ (r : Span). r.start ≤ r.end) (sym is) at.0 in
     let most : s.end ≤ end_from 0 spans = subst (λ (r : Span). r.end ≤ end_from 0 spans) (sym is) at.1 in
-    (ordered, omega (arith, most, region.whole), ap (path_at nodes) is ∙ sym (get_or-map (path_at nodes) spans k s [] l))
+    (ordered, omega (arith, most, region.whole), ap (path_in nodes) is ∙ sym (get_or-map (path_in nodes) spans k s [] l))
+
+-- it stands in a copy of the region too
+pub span_lent : (nodes xs : List ℕ) (spans : List Span) (k : ℕ) (s : Span) → IsRegion nodes spans → k < length spans → s ≡ get_or spans k s → xs ≡ nodes → (s.start ≤ s.end) × (s.end ≤ length xs)
+span_lent nodes xs spans k s region l is same = let at = span_read nodes spans k s region l is in (at.0, rw same at.1)
 
 -- how many nodes the paths have, from a place on
-nodes_from : (nodes : List ℕ) (place : ℕ) (spans : List Span) → AreInRow place spans → end_from place spans ≤ length nodes → place + nodes_in (paths_of nodes spans) ≡ end_from place spans
+nodes_from : (nodes : List ℕ) (place : ℕ) (spans : List Span) → AreInRow place spans → end_from place spans ≤ length nodes → place + nodes_in (paths_in nodes spans) ≡ end_from place spans
 unfolding end_from
 nodes_from nodes place [] are most = omega arith
 nodes_from nodes place (s ∷ spans) are most =
-    let rest : s.end + nodes_in (paths_of nodes spans) ≡ end_from s.end spans = nodes_from nodes s.end spans are.2 most in
+    let rest : s.end + nodes_in (paths_in nodes spans) ≡ end_from s.end spans = nodes_from nodes s.end spans are.2 most in
     let low : s.end ≤ end_from s.end spans = end_most s.end spans are.2 in
-    let size : length (path_at nodes s) ≡ s.end - s.start = length-take-le (s.end - s.start) (drop s.start nodes) (omega (arith, length-drop s.start nodes, low, most)) in
+    let size : length (path_in nodes s) ≡ s.end - s.start = length-take-le (s.end - s.start) (drop s.start nodes) (omega (arith, length-drop s.start nodes, low, most)) in
     omega (arith, rest, size, are.0, are.1)
 
 -- all are those of the paths
-pub nodes_all : (nodes : List ℕ) (spans : List Span) → IsRegion nodes spans → nodes_in (paths_of nodes spans) ≡ length nodes
+pub nodes_all : (nodes : List ℕ) (spans : List Span) → IsRegion nodes spans → nodes_in (paths_in nodes spans) ≡ length nodes
 nodes_all nodes spans region = omega (arith, nodes_from nodes 0 spans region.in_row (omega (arith, region.whole)), region.whole)
 
 -- an empty region

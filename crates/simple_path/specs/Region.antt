@@ -4,12 +4,12 @@ use Rattle.std.specs.List.{slice_range}
 use Rattle.simple_path.specs.declared.span.Span.{Span}
 
 -- the nodes at these places
-abbrev pub path_at : List ℕ → Span → List ℕ
-path_at nodes s = slice_range nodes s.start s.end
+abbrev pub path_in : List ℕ → Span → List ℕ
+path_in nodes s = slice_range nodes s.start s.end
 
 -- all paths
-abbrev pub paths_of : List ℕ → List Span → List (List ℕ)
-paths_of nodes spans = map (path_at nodes) spans
+abbrev pub paths_in : List ℕ → List Span → List (List ℕ)
+paths_in nodes spans = map (path_in nodes) spans
 
 -- each path begins where the one before it ends, the first at this place
 abbrev pub AreInRow : ℕ → List Span → Type 0

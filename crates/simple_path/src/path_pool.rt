@@ -18,11 +18,11 @@ pub struct PathPool {
 
 impl Model for PathPool {
     ghost use Rattle.std.specs.Prelude.{ℕ, List};
-    ghost use Rattle.simple_path.specs.Region.{paths_of, IsRegion};
+    ghost use Rattle.simple_path.specs.Region.{paths_in, IsRegion};
 
     ghost Value = { List (List ℕ) };
 
-    ghost view = { λ p. paths_of p.nodes.items p.spans.items };
+    ghost view = { λ p. paths_in p.nodes.items p.spans.items };
 
     ghost invariant = { λ p. IsRegion p.nodes.items p.spans.items };
 }

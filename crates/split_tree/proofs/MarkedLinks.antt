@@ -1,5 +1,5 @@
 -- The links between marked nodes, and a link more.
-use Rattle.std.proofs.Common.{◌≡◌, ℕ, zero, suc, ◌<◌, ◌≤◌, Bool, true, false, ◌&&◌, ◌||◌, ◌==◌, List, [], ◌∷◌, ◌++◌, length, get_or, All, refl, sym, ap, ap₂, ◌∙◌, subst, inl, inr, arith}
+use Rattle.std.proofs.Common.{◌≡◌, ℕ, zero, suc, ◌<◌, Bool, true, false, ◌&&◌, ◌||◌, ◌==◌, List, [], ◌∷◌, ◌++◌, length, get_or, All, refl, sym, ap, ap₂, ◌∙◌, subst, inl, inr, arith}
 use Rattle.std.specs.List.{filter, list_any}
 use Rattle.std.proofs.lemmas.Bool.{cases_Bool}
 use Rattle.std.proofs.lemmas.Bool.Decides.{nat_tests}
@@ -11,6 +11,7 @@ use Rattle.tomo_base.proofs.Links.{joins_gives, any_joins_comm}
 use Rattle.tomo_base.proofs.Rows.{any_joins-push, AreLinks-push}
 use Rattle.split_tree.specs.declared.piece.Piece.{Piece}
 use Rattle.split_tree.specs.Parts.{is_inside, IsMarkedPart}
+use Rattle.tomo_base.proofs.Lists.{filter_le}
 
 -- a link that joins u and v is between marked nodes where both have marks
 ends_marked : (marks : List Bool) (l : Link) (u v : ℕ) → joins l u v ≡ true → is_inside marks l ≡ (mark_of marks u && mark_of marks v)
@@ -58,11 +59,6 @@ pub links_below : (n : ℕ) (ls : List Link) → AreLinks n ls → All (λ (l : 
 links_below n [] are k d lt = absurd (omega (arith, lt))
 links_below n (l ∷ ls) are zero d lt = (omega (arith, are.0, are.1), are.1)
 links_below n (l ∷ ls) are (suc k) d lt = links_below n ls are.3 k d (omega (arith, lt))
-
--- fewer are kept where one is left out
-pub filter_le : {X : Type 0} (p : X → Bool) (xs : List X) → length (filter p xs) ≤ length xs
-filter_le p [] = omega arith
-filter_le p (x ∷ xs) = elim (cases_Bool (p x)) [ inl e ↦ rw e (omega (arith, filter_le p xs)) | inr e ↦ rw e (omega (arith, filter_le p xs)) ]
 
 pub filter_less : {X : Type 0} (p : X → Bool) (xs : List X) (k : ℕ) (d : X) → k < length xs → p (get_or xs k d) ≡ false → length (filter p xs) < length xs
 filter_less p [] k d l out = absurd (omega (arith, l))

@@ -6,7 +6,8 @@ use Rattle.tomo_base.specs.Sets.{count, Within}
 use Rattle.tomo_base.specs.Parting.{without_two, IsClosedIn, IsJoinedWithoutOne, IsJoinedWithoutTwo}
 use Rattle.tomo_base.proofs.Parting.{flip}
 use Rattle.tomo_base.proofs.Picks.{count-within, pick2, pick3, two-at-most}
-use Rattle.blocks.proofs.SetLists.{Each, Some, Pairs, each-map, each-both, each-every, each-join, some-left, some-right, some-with, pairs-each, pairs-join, at-home}
+use Rattle.blocks.specs.Cutting.{Each, Some, Pairs}
+use Rattle.blocks.proofs.SetLists.{each-map, each-both, each-every, each-join, some-left, some-right, some-with, pairs-each, pairs-join, at-home}
 use Rattle.blocks.proofs.Unparted.{Pairwise}
 use Rattle.split_tree.proofs.Part.{Part}
 use Rattle.split_tree.proofs.Rigid.{Ends, Owned, rigid-unparted}

@@ -19,7 +19,8 @@ use Rattle.tomo_base.proofs.Reaching.{is_node, nodes_in, is_node-from, is_node_b
 use Rattle.tomo_base.proofs.Picks.{two-at-most}
 use Rattle.tomo_base.specs.Parting.{IsThreeConnectedIn}
 use Rattle.blocks.proofs.Unparted.{Pairwise}
-use Rattle.blocks.proofs.Working.{like-from, each_at, some_at, same_test}
+use Rattle.blocks.proofs.Working.{like-from, each_at, some_at}
+use Rattle.tomo_base.proofs.Lists.{same_test}
 use Rattle.split_tree.specs.declared.piece.Piece.{Piece}
 use Rattle.split_tree.specs.declared.tree.Tree.{Tree, Small, Rigid, Split', Row_of-Tree-Split-2-1, end_of-Tree-Split-2-1, more_of-Tree-Split-2-1, Row_of-Tree, end_of-Tree, more_of-Tree}
 use Rattle.split_tree.specs.Pieces.{net, IsPiece, IsPieceOf}

@@ -2,6 +2,7 @@
 use Rattle.std.proofs.Common.{◌≡◌, ℕ, ◌<◌, ◌≤◌, Bool, not, ◌&&◌, ◌==◌, List, length, IsTrue, sym, ap, ap₂, ◌∙◌, subst, arith}
 use Rattle.std.specs.List.{filter}
 use Rattle.std.proofs.lemmas.Bool.{and_parts, and_from}
+use Rattle.tomo_base.specs.Limits.{graph_link_limit}
 use Rattle.tomo_base.specs.Network.{Network, any_joins, linked, IsGraph}
 use Rattle.tomo_base.specs.Sets.{has}
 use Rattle.tomo_base.specs.Search.{mark_of}
@@ -16,7 +17,8 @@ use Rattle.split_tree.specs.declared.piece.Piece.{Piece}
 use Rattle.split_tree.specs.Pieces.{net, IsPiece, IsPieceOf}
 use Rattle.split_tree.specs.Parts.{is_inside}
 use Rattle.split_tree.specs.Stages.{IsStage}
-use Rattle.split_tree.proofs.MarkedLinks.{any_filter, AreLinks-filter, filter_le}
+use Rattle.split_tree.proofs.MarkedLinks.{any_filter, AreLinks-filter}
+use Rattle.tomo_base.proofs.Lists.{filter_le}
 
 module _ (g : Network) (block : List ℕ) (marks : List Bool) (p : Piece) (graph : IsGraph g) (is : IsBlock g (has block)) (set : IsSetBelow g.nodes block)
     (same : (v : ℕ) → mark_of marks v ≡ has block v) (nodes_are : p.nodes ≡ block) (links_are : p.links ≡ filter (is_inside marks) g.links) where
@@ -53,7 +55,7 @@ module _ (g : Network) (block : List ℕ) (marks : List Bool) (p : Piece) (graph
       (and_from (X a) (W a) xa ia))).0
 
   -- to be cut
-  pub top_stage : length g.links ≤ 20000 → IsStage g.nodes p
+  pub top_stage : length g.links ≤ graph_link_limit → IsStage g.nodes p
   top_stage few = record {
     is = top_piece;
     nonseparable = subst (λ xs. IsNonseparable (net g.nodes p) (has xs)) (sym nodes_are)

@@ -1,5 +1,6 @@
 -- Pieces that are still to be cut, and a piece that was cut.
 use Rattle.std.specs.Prelude.{ℕ, ◌≢◌, ◌<◌, ◌≤◌, length, IsTrue}
+use Rattle.tomo_base.specs.Limits.{graph_link_limit}
 use Rattle.three_conn.specs.Parting.{IsParted}
 use Rattle.three_conn.specs.declared.known.Parting.{Parting}
 use Rattle.tomo_base.specs.Sets.{has}
@@ -12,7 +13,7 @@ use Rattle.split_tree.specs.Pieces.{net, IsPiece, IsCutInto}
 pub record IsStage (n : ℕ) (p : Piece) : Type 0 where
   pub is : IsPiece n p
   pub nonseparable : IsNonseparable (net n p) (has p.nodes)
-  pub few : length p.links ≤ 20000
+  pub few : length p.links ≤ graph_link_limit
 
 -- the two parts of a piece, to be cut in their turn; each has fewer nodes than the piece
 pub record IsHalved (n : ℕ) (p : Piece) (h : Halves) : Type 0 where

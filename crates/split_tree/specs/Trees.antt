@@ -1,8 +1,8 @@
 -- Split trees: the facts of all levels, their depth, and the node sets of their rigid pieces.
 use Rattle.std.specs.Prelude.{ℕ, ◌+◌, ◌≤◌, max, List, [], ◌∷◌, ◌++◌, length}
+use Rattle.tomo_base.specs.Limits.{graph_node_limit}
 use Rattle.tomo_base.specs.declared.graph.Link.{Link}
 use Rattle.tomo_base.specs.Sets.{has}
-use Rattle.tomo_base.specs.NodeLists.{node_limit}
 use Rattle.tomo_base.specs.Blocks.{IsNonseparable}
 use Rattle.tomo_base.specs.Parting.{IsThreeConnectedIn}
 use Rattle.split_tree.specs.declared.piece.Piece.{Piece}
@@ -80,7 +80,7 @@ abbrev mutual
 
 -- the tree of a block with nodes below n: at least three nodes, connected, and connected without any one of them; the facts of all levels; no deeper than it has nodes
 pub record IsSplitTree (n : ℕ) (t : Tree) : Type 0 where
-  pub few : n ≤ node_limit
+  pub few : n ≤ graph_node_limit
   pub three : 3 ≤ length (piece_of t).nodes
   pub nonseparable : ∥ IsNonseparable (net n (piece_of t)) (has (piece_of t).nodes) ∥₁
   pub facts : Facts n t

@@ -1,5 +1,6 @@
 // A piece is cut at two nodes that part it.
 ghost use Rattle.std.specs.Prelude.{◌≡◌, ◌≤◌, ◌<◌, length, IfOk, IfSome, IfNone};
+ghost use Rattle.tomo_base.specs.Limits.{graph_node_limit};
 ghost use Rattle.tomo_base.specs.Sets.{has};
 ghost use Rattle.tomo_base.specs.Parting.{IsThreeConnectedIn};
 ghost use Rattle.split_tree.specs.Pieces.{net};
@@ -23,7 +24,7 @@ pub struct Halves {
 // The piece as a graph.
 fn graph_of(alloc: Global, n: u32, piece: &Piece) -> Result<Graph, NoMemory>
     requires stage { IsStage n piece.now }
-    requires few { n ≤ 10000 }
+    requires few { n ≤ graph_node_limit }
     ensures { IfOk result (λ g. g ≡ net n piece.now) }
 {
     match Graph::new(alloc, n, piece.links.as_slice()) {
@@ -39,7 +40,7 @@ fn graph_of(alloc: Global, n: u32, piece: &Piece) -> Result<Graph, NoMemory>
 // nodes are numbered along it is cut near its middle.
 fn parting_of(alloc: Global, n: u32, piece: &Piece) -> Result<Option<Parting>, NoMemory>
     requires stage { IsStage n piece.now }
-    requires few { n ≤ 10000 }
+    requires few { n ≤ graph_node_limit }
     requires four { 4 ≤ length piece.now.nodes }
     ensures whole { IfOk result (λ o. IfNone o (IsThreeConnectedIn (net n piece.now) (has piece.now.nodes))) }
     ensures parting { IfOk result (λ o. IfSome o (IsPairCut n piece.now)) }
@@ -57,7 +58,7 @@ fn parting_of(alloc: Global, n: u32, piece: &Piece) -> Result<Option<Parting>, N
 // The two parts of a piece at two nodes that part it, or none where it is three-connected.
 pub fn cut(alloc: Global, n: u32, piece: &Piece) -> Result<Option<Halves>, NoMemory>
     requires stage { IsStage n piece.now }
-    requires few { n ≤ 10000 }
+    requires few { n ≤ graph_node_limit }
     requires four { 4 ≤ length piece.now.nodes }
     ensures whole { IfOk result (λ o. IfNone o (IsThreeConnectedIn (net n piece.now) (has piece.now.nodes))) }
     ensures halved { IfOk result (λ o. IfSome o (IsHalved n piece.now)) }

@@ -3,8 +3,7 @@ ghost use Rattle.std.specs.Prelude.{◌≡◌, ◌≤◌, ◌+◌, ◌++◌, len
 ghost use Rattle.tomo_base.specs.Network.{Network, IsGraph};
 ghost use Rattle.tomo_base.specs.Sets.{has};
 ghost use Rattle.tomo_base.specs.Blocks.{IsThreeBlockOf};
-ghost use Rattle.tomo_base.specs.SetLists.{AreAllSets};
-ghost use Rattle.blocks.specs.Lists.{lists_of};
+ghost use Rattle.tomo_base.specs.SetLists.{AreAllSets, lists_of};
 ghost use Rattle.split_tree.specs.Pieces.{IsPieceOf};
 ghost use Rattle.split_tree.specs.Trees.{piece_of, rigids_of};
 

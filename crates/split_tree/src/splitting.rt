@@ -1,5 +1,6 @@
 // The split tree of a block.
 ghost use Rattle.std.specs.Prelude.{◌≡◌, ◌≤◌, ◌<◌, length, All, IfOk};
+ghost use Rattle.tomo_base.specs.Limits.{graph_node_limit};
 ghost use Rattle.tomo_base.specs.Sets.{has};
 ghost use Rattle.tomo_base.specs.Blocks.{IsBlock};
 ghost use Rattle.split_tree.specs.Pieces.{IsPieceOf};
@@ -18,7 +19,7 @@ use tomo_base::{Graph, NoMemory, NodeSet};
 // The tree of a piece that no single node cuts.
 fn build(alloc: Global, n: u32, piece: Piece) -> Result<Tree, NoMemory>
     requires stage { IsStage n piece }
-    requires few { n ≤ 10000 }
+    requires few { n ≤ graph_node_limit }
     ensures facts { IfOk result (Facts n) }
     ensures piece { IfOk result (λ t. piece_of t ≡ piece) }
     ensures depth { IfOk result (λ t. depth_of t ≤ length piece.nodes) }

@@ -3,7 +3,7 @@ use Rattle.std.proofs.Common.{◌≡◌, ◌≢◌, ℕ, zero, suc, ◌<◌, ◌
 use Rattle.std.proofs.lemmas.Bool.{both_ways, cases_Bool, cases_eq}
 use Rattle.tomo_base.specs.Network.{Network, linked}
 use Rattle.tomo_base.specs.Sets.{has, Apart}
-use Rattle.unit_flow.proofs.Lists.{has_first}
+use Rattle.tomo_base.proofs.Members.{has_first}
 use Rattle.indep_trees.specs.Trees.{Climbs}
 use Rattle.stpc_paths.specs.Roots.{after, NameEachOther, Owns}
 use Rattle.stpc_paths.proofs.Climbing.{climb_one}

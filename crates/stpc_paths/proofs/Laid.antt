@@ -21,7 +21,7 @@ use Rattle.plan_form.specs.Tied.{place_between, recipe_between}
 use Rattle.plan_form.proofs.Tied.{place_joins, recipe_comm, weighted_along, Balances}
 use Rattle.stpc_paths.specs.declared.roots.Root.{Root}
 use Rattle.stpc_paths.specs.Roots.{after, Owns, IsOwned, IsRoot}
-use Rattle.stpc_paths.specs.Names.{IsName, own, shared}
+use Rattle.stpc_paths.specs.Names.{own, shared, IsPathName}
 use Rattle.stpc_paths.specs.Terms.{link_terms}
 use Rattle.stpc_paths.proofs.Forests.{Forest, after_below, thrice, trunk_ends, mutual_or_not, owner_up}
 use Rattle.stpc_paths.proofs.Naming.{place_is, name_one, name_joint, root_owned}
@@ -32,7 +32,7 @@ use Rattle.stpc_paths.proofs.Weighing.{gain_at, loss_at, ends_weigh, free_weigh,
 pub record Laid (g : Network) (m : ℕ → Bool) (number : ℕ → ℕ) (parent : ℕ → ℕ → ℕ) (f : Forest g m number parent) (roots : ℕ → Root) (name : ℕ → ℕ → ℕ) (paths : List (List ℕ)) (recipes : List (List Term)) : Type 0 where
   pub graph : IsGraph g
   pub root : (e : ℕ) (l : Link) → slice_get g.links e ≡ Some l → IsRoot m parent number l (roots e)
-  pub named : (i v : ℕ) → i < 3 → m v ≡ false → IsName g.links m parent i v (name i v)
+  pub named : (i v : ℕ) → i < 3 → m v ≡ false → IsPathName g.links m parent i v (name i v)
   pub one_path : length paths ≡ length g.links
   pub path : (e : ℕ) → e < length g.links → get_or paths e [] ≡ path_by g m number parent f (roots e).node (roots e).other (roots e).tree
   pub recipe : (e : ℕ) → e < length g.links → get_or recipes e [] ≡ link_terms m name e (roots e).node (roots e).other (roots e).tree
@@ -180,7 +180,7 @@ module _ (g : Network) (m : ℕ → Bool) (number : ℕ → ℕ) (parent : ℕ �
     climbed i v = sum_from ones v (f.trunk i v)
 
     -- the path with a node's number runs over both of its tree paths
-    name_uses : (i v q : ℕ) → i < 3 → IsName g.links m parent i v q → used q ≡ climbed i v + climbed (after i) v
+    name_uses : (i v q : ℕ) → i < 3 → IsPathName g.links m parent i v q → used q ≡ climbed i v + climbed (after i) v
     unfolding uses_of
     name_uses i v q lt (own free alone) =
         let owns : Owns m parent i v (parent i v) = record { free = free; parent_is = refl; alone = alone } in

@@ -3,6 +3,7 @@ use Rattle.std.proofs.Common.{◌≡◌, ℕ, ◌+◌, ◌*◌, ◌<◌, ◌≤�
 use Rattle.std.proofs.lemmas.Bool.{cases_lt}
 use Rattle.std.proofs.lemmas.List.{length_push, get_or_append_left, get_or_push, get_or_default}
 use Rattle.std.proofs.lemmas.Option.{slice_get-get_or}
+use Rattle.tomo_base.specs.Limits.{graph_link_limit, graph_node_limit}
 use Rattle.tomo_base.specs.declared.graph.Link.{Link}
 use Rattle.tomo_base.specs.Network.{linked}
 use Rattle.tomo_base.specs.Identify.{IsMonitorPath}
@@ -10,10 +11,10 @@ use Rattle.tomo_base.proofs.Links.{linked_below}
 use Rattle.tomo_base.proofs.Rows.{any_joins-from}
 use Rattle.simple_path.specs.Pools.{nodes_in}
 use Rattle.simple_path.proofs.Pools.{nodes_in-append}
-use Rattle.simple_path.proofs.Short.{walk_short}
+use Rattle.tomo_base.proofs.Paths.{walk_short}
 use Rattle.cross_links.specs.Joining.{turned_onto}
 use Rattle.cross_links.proofs.Turned.{turned_is}
-use Rattle.indep_trees.specs.Trees.{Climbs, Trees, number_in, parent_in}
+use Rattle.indep_trees.specs.Trees.{Climbs, Trees, parent_in, rank_in}
 use Rattle.stpc_paths.specs.declared.roots.Root.{Root}
 use Rattle.stpc_paths.specs.Roots.{after, tree_of, second_start, Owns, IsOwned, IsRoot}
 use Rattle.stpc_paths.specs.Kept.{stops, IsForest, monitor_in, AreRoots, IsPathOf, ArePathsOf}
@@ -31,23 +32,23 @@ path_joined t r tree second first turned whole is_tree is_second up back on p q 
     whole_is ∙ (ap (λ l. l ++ second ∷ q) (back ∙ ap (λ l. reverse l) first_is) ∙ (turned_is (r.node ∷ p) (second ∷ q) ∙ ap (λ s. turned_onto (r.node ∷ p) (s ∷ q)) is_second))
 
 -- the two trees of a path
-pub tree_below : (t : Trees) (v w : ℕ) (o : Option ℕ) → IsOwned (monitor_in t) (parent_in t) (number_in t) v w o → tree_of o < 3
+pub tree_below : (t : Trees) (v w : ℕ) (o : Option ℕ) → IsOwned (monitor_in t) (parent_in t) (rank_in t) v w o → tree_of o < 3
 tree_below t v w (Some i) owned = owned.0
 tree_below t v w None owned = omega arith
 
 -- the second part begins at a node
-pub second_below : (t : Trees) (v w : ℕ) (o : Option ℕ) → IsForest t → v < t.graph.nodes → w < t.graph.nodes → IsOwned (monitor_in t) (parent_in t) (number_in t) v w o → second_start (parent_in t) v w o < t.graph.nodes
-second_below t v w (Some i) is in_v in_w owned = parent_below t.graph (monitor_in t) (number_in t) (parent_in t) is.graph is.trees (after i) v (after_below i owned.0) (in_v, owned.1.free)
+pub second_below : (t : Trees) (v w : ℕ) (o : Option ℕ) → IsForest t → v < t.graph.nodes → w < t.graph.nodes → IsOwned (monitor_in t) (parent_in t) (rank_in t) v w o → second_start (parent_in t) v w o < t.graph.nodes
+second_below t v w (Some i) is in_v in_w owned = parent_below t.graph (monitor_in t) (rank_in t) (parent_in t) is.graph is.trees (after i) v (after_below i owned.0) (in_v, owned.1.free)
 second_below t v w None is in_v in_w owned = in_w
 
 -- what the roots of links say of the forest's monitors
-pub owned_stops : (t : Trees) (v w : ℕ) (o : Option ℕ) → v < t.graph.nodes → w < t.graph.nodes → IsForest t → IsOwned (monitor_in t) (parent_in t) (number_in t) v w o → IsOwned (stops t.graph (monitor_in t)) (parent_in t) (number_in t) v w o
+pub owned_stops : (t : Trees) (v w : ℕ) (o : Option ℕ) → v < t.graph.nodes → w < t.graph.nodes → IsForest t → IsOwned (monitor_in t) (parent_in t) (rank_in t) v w o → IsOwned (stops t.graph (monitor_in t)) (parent_in t) (rank_in t) v w o
 owned_stops t v w (Some i) in_v in_w is owned = (
   owned.0,
   record {
     free = goes_from t.graph (monitor_in t) v (in_v, owned.1.free);
     parent_is = owned.1.parent_is;
-    alone = λ both. owned.1.alone (sym (stops_node t.graph (monitor_in t) (parent_in t i v) (parent_below t.graph (monitor_in t) (number_in t) (parent_in t) is.graph is.trees i v owned.0 (in_v, owned.1.free))) ∙ both.0, both.1);
+    alone = λ both. owned.1.alone (sym (stops_node t.graph (monitor_in t) (parent_in t i v) (parent_below t.graph (monitor_in t) (rank_in t) (parent_in t) is.graph is.trees i v owned.0 (in_v, owned.1.free))) ∙ both.0, both.1);
   },
 )
 owned_stops t v w None in_v in_w is owned = (
@@ -61,35 +62,35 @@ owned_stops t v w None in_v in_w is owned = (
         record {
           free = free;
           parent_is = o.parent_is;
-          alone = λ both. o.alone (stops_node t.graph (monitor_in t) (parent_in t i v) (parent_below t.graph (monitor_in t) (number_in t) (parent_in t) is.graph is.trees i v l (in_v, free)) ∙ both.0, both.1);
+          alone = λ both. o.alone (stops_node t.graph (monitor_in t) (parent_in t i v) (parent_below t.graph (monitor_in t) (rank_in t) (parent_in t) is.graph is.trees i v l (in_v, free)) ∙ both.0, both.1);
         }
 
 module _ (t : Trees) (is : IsForest t) where
   abbrev pub mon : ℕ → Bool
   mon = stops t.graph (monitor_in t)
 
-  abbrev pub wood : Forest t.graph (stops t.graph (monitor_in t)) (number_in t) (parent_in t)
-  wood = forest t.graph (monitor_in t) (number_in t) (parent_in t) is.graph is.trees
+  abbrev pub wood : Forest t.graph (stops t.graph (monitor_in t)) (rank_in t) (parent_in t)
+  wood = forest t.graph (monitor_in t) (rank_in t) (parent_in t) is.graph is.trees
 
   -- the path of a root is that of the forest
-  pub path_is : (r : Root) (path : List ℕ) → r.node < t.graph.nodes → r.other < t.graph.nodes → IsOwned (monitor_in t) (parent_in t) (number_in t) r.node r.other r.tree → IsPathOf t r path
-      → path ≡ path_by t.graph (stops t.graph (monitor_in t)) (number_in t) (parent_in t) wood r.node r.other r.tree
+  pub path_is : (r : Root) (path : List ℕ) → r.node < t.graph.nodes → r.other < t.graph.nodes → IsOwned (monitor_in t) (parent_in t) (rank_in t) r.node r.other r.tree → IsPathOf t r path
+      → path ≡ path_by t.graph (stops t.graph (monitor_in t)) (rank_in t) (parent_in t) wood r.node r.other r.tree
   path_is r path in_node in_other owned of_root =
       let i = tree_of r.tree in
       let l = tree_below t r.node r.other r.tree owned in
       let s = second_start (parent_in t) r.node r.other r.tree in
       of_root (wood.trunk i r.node) (wood.trunk (after i) s)
-      (trunk_path t.graph (monitor_in t) (number_in t) (parent_in t) is.graph is.trees i r.node l in_node)
-      (trunk_path t.graph (monitor_in t) (number_in t) (parent_in t) is.graph is.trees (after i) s (after_below i l) (second_below t r.node r.other r.tree is in_node in_other owned))
+      (trunk_path t.graph (monitor_in t) (rank_in t) (parent_in t) is.graph is.trees i r.node l in_node)
+      (trunk_path t.graph (monitor_in t) (rank_in t) (parent_in t) is.graph is.trees (after i) s (after_below i l) (second_below t r.node r.other r.tree is in_node in_other owned))
 
   -- so it has no more nodes than the graph
-  pub path_short : (l : Link) (r : Root) (e : ℕ) (path : List ℕ) → slice_get t.graph.links e ≡ Some l → IsRoot (monitor_in t) (parent_in t) (number_in t) l r → IsPathOf t r path → length path ≤ t.graph.nodes
+  pub path_short : (l : Link) (r : Root) (e : ℕ) (path : List ℕ) → slice_get t.graph.links e ≡ Some l → IsRoot (monitor_in t) (parent_in t) (rank_in t) l r → IsPathOf t r path → length path ≤ t.graph.nodes
   path_short l r e path at root of_root =
       let joined : IsTrue (linked t.graph r.node r.other) = any_joins-from t.graph.links e r.node r.other (l, at, root.ends) in
       let below = linked_below t.graph.nodes t.graph.links r.node r.other is.graph joined in
       let same = path_is r path below.0 below.1 root.owned of_root in
-      rw same (short (path_by t.graph (stops t.graph (monitor_in t)) (number_in t) (parent_in t) wood r.node r.other r.tree)
-      (path_monitor t.graph (stops t.graph (monitor_in t)) (number_in t) (parent_in t) wood r.node r.other r.tree (owned_stops t r.node r.other r.tree below.0 below.1 is root.owned) joined))
+      rw same (short (path_by t.graph (stops t.graph (monitor_in t)) (rank_in t) (parent_in t) wood r.node r.other r.tree)
+      (path_monitor t.graph (stops t.graph (monitor_in t)) (rank_in t) (parent_in t) wood r.node r.other r.tree (owned_stops t r.node r.other r.tree below.0 below.1 is root.owned) joined))
     where
       short : (p : List ℕ) → IsMonitorPath t.graph (stops t.graph (monitor_in t)) p → length p ≤ t.graph.nodes
       short [] h = omega arith
@@ -104,14 +105,14 @@ no_root = record { node = 0; other = 0; tree = None }
 pub record PathsTo (t : Trees) (roots : List Root) (i : ℕ) (paths : List (List ℕ)) : Type 0 where
   pub size : length paths ≡ i
   pub each : (e : ℕ) (d : Root) → e < i → IsPathOf t (get_or roots e d) (get_or paths e [])
-  pub few : nodes_in paths ≤ i * 10000
+  pub few : nodes_in paths ≤ i * graph_node_limit
 
 -- none yet
 pub paths_none : (t : Trees) (roots : List Root) (pool : List (List ℕ)) → pool ≡ [] → PathsTo t roots 0 pool
 paths_none t roots pool none = rw none (record { size = refl; each = λ e d l. absurd (omega (arith, l)); few = omega arith })
 
 -- the link of a root
-pub root_link : (t : Trees) (roots : List Root) (e : ℕ) (d : Root) → AreRoots t t.graph.links roots → e < length roots → (l : Link) × (slice_get t.graph.links e ≡ Some l) × IsRoot (monitor_in t) (parent_in t) (number_in t) l (get_or roots e d)
+pub root_link : (t : Trees) (roots : List Root) (e : ℕ) (d : Root) → AreRoots t t.graph.links roots → e < length roots → (l : Link) × (slice_get t.graph.links e ≡ Some l) × IsRoot (monitor_in t) (parent_in t) (rank_in t) l (get_or roots e d)
 root_link t roots e d are lt =
     let x : Link = record { a = 0; b = 0 } in
     let at = slice_get-get_or t.graph.links e x (omega (arith, lt, are.one_each)) in
@@ -124,7 +125,7 @@ root_below t roots e d is are lt =
     linked_below t.graph.nodes t.graph.links (get_or roots e d).node (get_or roots e d).other is.graph (any_joins-from t.graph.links e (get_or roots e d).node (get_or roots e d).other (r.0, r.1, r.2.ends))
 
 -- one more
-pub paths_more : (t : Trees) (roots : List Root) (i : ℕ) (paths : List (List ℕ)) (path : List ℕ) (d : Root) → IsForest t → t.graph.nodes ≤ 10000 → AreRoots t t.graph.links roots → i < length roots → IsPathOf t (get_or roots i d) path → PathsTo t roots i paths → PathsTo t roots (i + 1) (paths ++ path ∷ [])
+pub paths_more : (t : Trees) (roots : List Root) (i : ℕ) (paths : List (List ℕ)) (path : List ℕ) (d : Root) → IsForest t → t.graph.nodes ≤ graph_node_limit → AreRoots t t.graph.links roots → i < length roots → IsPathOf t (get_or roots i d) path → PathsTo t roots i paths → PathsTo t roots (i + 1) (paths ++ path ∷ [])
 paths_more t roots i paths path d is small are lt of_root before =
     let r = root_link t roots i d are lt in
     let short = path_short t is r.0 (get_or roots i d) i path r.1 r.2 of_root in
@@ -140,7 +141,7 @@ paths_more t roots i paths path d is small are lt of_root before =
     }
 
 -- there is room for one more
-pub paths_room : (t : Trees) (roots : List Root) (i : ℕ) (paths : List (List ℕ)) (path : List ℕ) (d : Root) → IsForest t → t.graph.nodes ≤ 10000 → length roots ≤ 20000 → AreRoots t t.graph.links roots → i < length roots → IsPathOf t (get_or roots i d) path → PathsTo t roots i paths
+pub paths_room : (t : Trees) (roots : List Root) (i : ℕ) (paths : List (List ℕ)) (path : List ℕ) (d : Root) → IsForest t → t.graph.nodes ≤ graph_node_limit → length roots ≤ graph_link_limit → AreRoots t t.graph.links roots → i < length roots → IsPathOf t (get_or roots i d) path → PathsTo t roots i paths
     → nodes_in paths + length path < 2 ^ 31
 paths_room t roots i paths path d is small few are lt of_root before =
     let r = root_link t roots i d are lt in

@@ -12,7 +12,7 @@ use Rattle.plan_form.specs.Tied.{place_between}
 use Rattle.plan_form.proofs.Tied.{place_joins}
 use Rattle.stpc_paths.specs.declared.roots.Root.{Root}
 use Rattle.stpc_paths.specs.Roots.{NameEachOther, Owns, IsOwned, IsRoot}
-use Rattle.stpc_paths.specs.Names.{IsName, own, shared}
+use Rattle.stpc_paths.specs.Names.{own, shared, IsPathName}
 use Rattle.stpc_paths.proofs.Forests.{Forest, mutual_or_not, one_tree, one_end}
 
 -- in a graph, the number of the link between two nodes is that of the one link that joins them
@@ -30,28 +30,28 @@ same_ends l a b v w h k = elim (joins_gives l a b h) [
 
 module _ (g : Network) (m : ℕ → Bool) (number : ℕ → ℕ) (parent : ℕ → ℕ → ℕ) (f : Forest g m number parent) where
   -- there is no second number
-  pub name_one : (i v q r : ℕ) → IsName g.links m parent i v q → IsName g.links m parent i v r → q ≡ r
+  pub name_one : (i v q r : ℕ) → IsPathName g.links m parent i v q → IsPathName g.links m parent i v r → q ≡ r
   name_one i v q r (own n a) (own n' a') = refl
   name_one i v q r (own n a) (shared n' b c) = absurd (a b)
   name_one i v q r (shared n b c) (own n' a') = absurd (a' b)
   name_one i v q r (shared n b c) (shared n' b' c') = name_one i (parent i v) q r c c'
 
   -- there is a number, since the path in the tree ends
-  pub name_exists : (i v : ℕ) (p : List ℕ) → Climbs m (parent i) v p → m v ≡ false → (q : ℕ) × IsName g.links m parent i v q
+  pub name_exists : (i v : ℕ) (p : List ℕ) → Climbs m (parent i) v p → m v ≡ false → (q : ℕ) × IsPathName g.links m parent i v q
   name_exists i v [] c free = absurd (both_ways (m v) free c)
   name_exists i v (w ∷ p) c free = elim (mutual_or_not g m number parent f i v) [
     | inl both ↦
         let rest = name_exists i w p c.2 (subst (λ x. m x ≡ false) (sym c.1) both.0) in
-        (rest.0, shared free both (subst (λ x. IsName g.links m parent i x rest.0) c.1 rest.1))
+        (rest.0, shared free both (subst (λ x. IsPathName g.links m parent i x rest.0) c.1 rest.1))
     | inr alone ↦ (place_between g.links v (parent i v), own free alone)
   ]
 
   -- a node and a parent that name each other have one number
-  pub name_joint : (i v q r : ℕ) → m v ≡ false → NameEachOther m parent i v → IsName g.links m parent i v q → IsName g.links m parent i (parent i v) r → q ≡ r
+  pub name_joint : (i v q r : ℕ) → m v ≡ false → NameEachOther m parent i v → IsPathName g.links m parent i v q → IsPathName g.links m parent i (parent i v) r → q ≡ r
   name_joint i v q r free both a b = name_one i v q r a (shared free both b)
 
   -- it is the number of a link
-  pub name_below : (i v q : ℕ) → i < 3 → IsName g.links m parent i v q → q < length g.links
+  pub name_below : (i v q : ℕ) → i < 3 → IsPathName g.links m parent i v q → q < length g.links
   name_below i v q l (own free alone) = place_below g.links (place_between g.links v (parent i v)) v (parent i v) (place_joins g.links v (parent i v) (f.joined i v l free))
   name_below i v q l (shared free both c) = name_below i (parent i v) q l c
 

@@ -5,12 +5,12 @@ use Rattle.tomo_base.specs.declared.graph.Link.{Link}
 use Rattle.tomo_base.specs.Search.{entry_at}
 use Rattle.tomo_base.specs.Table.{JoinsAt}
 use Rattle.tomo_base.proofs.Rows.{any_joins-from}
-use Rattle.indep_trees.specs.Trees.{Climbs, IsFree, Trees, number_in, parent_in}
+use Rattle.indep_trees.specs.Trees.{Climbs, IsFree, Trees, parent_in, rank_in}
 use Rattle.plan_form.specs.Tied.{place_between}
 use Rattle.plan_form.proofs.Tied.{place_joins}
 use Rattle.stpc_paths.specs.declared.roots.Root.{Root}
 use Rattle.stpc_paths.specs.Roots.{after, NameEachOther, IsOwned, IsRoot}
-use Rattle.stpc_paths.specs.Names.{IsName, own, shared}
+use Rattle.stpc_paths.specs.Names.{own, shared, IsPathName}
 use Rattle.stpc_paths.specs.Kept.{stops_in, IsForest, monitor_in, AreRoots, SharesPath, itself, below, cell, name_in, PutsName, AreNames}
 use Rattle.stpc_paths.proofs.Forests.{after_below}
 use Rattle.stpc_paths.proofs.Naming.{place_is, name_one, name_exists, name_below, root_owned}
@@ -101,7 +101,7 @@ module _ (t : Trees) (i from node k name : ℕ) (old now : List ℕ) (is : IsFor
   next = parent_in t (after i) node
 
   next_below : next < t.graph.nodes
-  next_below = parent_below t.graph (monitor_in t) (number_in t) (parent_in t) is.graph is.trees (after i) node (after_below i l) c.free
+  next_below = parent_below t.graph (monitor_in t) (rank_in t) (parent_in t) is.graph is.trees (after i) node (after_below i l) c.free
 
   -- a node that names the node is that one
   one_below : (w : ℕ) → NameEachOther (stops_in t) (parent_in t) i w → parent_in t i w ≡ node → w ≡ next
@@ -161,33 +161,33 @@ names_end t i from node k name old now le c = omega (arith, le, c.short)
 -- the names of the first k links stand in the table
 pub record NamedTo (t : Trees) (k : ℕ) (names : List ℕ) : Type 0 where
   pub size : length names ≡ 3 * t.graph.nodes
-  pub each : (i v q : ℕ) → i < 3 → stops_in t v ≡ false → IsName t.graph.links (stops_in t) (parent_in t) i v q → q < k → name_in names i v ≡ q
+  pub each : (i v q : ℕ) → i < 3 → stops_in t v ≡ false → IsPathName t.graph.links (stops_in t) (parent_in t) i v q → q < k → name_in names i v ≡ q
 
 module _ (t : Trees) (is : IsForest t) (roots : List Root) (are : AreRoots t t.graph.links roots) where
   -- a root for the forest
-  pub root_stops : (e : ℕ) (d : Root) (l : Link) → slice_get t.graph.links e ≡ Some l → e < length roots → IsRoot (stops_in t) (parent_in t) (number_in t) l (get_or roots e d)
+  pub root_stops : (e : ℕ) (d : Root) (l : Link) → slice_get t.graph.links e ≡ Some l → e < length roots → IsRoot (stops_in t) (parent_in t) (rank_in t) l (get_or roots e d)
   root_stops e d l at lt =
       let r = are.each e l d at in
       let b = root_below t roots e d is are lt in
       record { ends = r.ends; owned = owned_stops t (get_or roots e d).node (get_or roots e d).other (get_or roots e d).tree b.0 b.1 is r.owned }
 
   -- a node with the name of a link shares the path of the link's root
-  name_rooted : (i v q : ℕ) (d : Root) → i < 3 → q < length roots → IsName t.graph.links (stops_in t) (parent_in t) i v q → ((get_or roots q d).tree ≡ Some i) × SharesPath (stops_in t) (parent_in t) i (get_or roots q d).node v
+  name_rooted : (i v q : ℕ) (d : Root) → i < 3 → q < length roots → IsPathName t.graph.links (stops_in t) (parent_in t) i v q → ((get_or roots q d).tree ≡ Some i) × SharesPath (stops_in t) (parent_in t) i (get_or roots q d).node v
   name_rooted i v q d l lt (own free alone) =
       let f = wood t is in
       let at : JoinsAt t.graph.links (place_between t.graph.links v (parent_in t i v)) v (parent_in t i v) = place_joins t.graph.links v (parent_in t i v) (f.joined i v l free) in
-      let r = root_owned t.graph (stops_in t) (number_in t) (parent_in t) f i v (parent_in t i v) at.0 (get_or roots q d) l (record { free = free; parent_is = refl; alone = alone }) at.2 (root_stops q d at.0 at.1 lt) in
+      let r = root_owned t.graph (stops_in t) (rank_in t) (parent_in t) f i v (parent_in t i v) at.0 (get_or roots q d) l (record { free = free; parent_is = refl; alone = alone }) at.2 (root_stops q d at.0 at.1 lt) in
       (r.2, subst (λ x. SharesPath (stops_in t) (parent_in t) i x v) (sym r.0) itself)
   name_rooted i v q d l lt (shared free both rest) = let up = name_rooted i (parent_in t i v) q d l lt rest in (up.0, below free both up.1)
 
   -- a node that shares the path of a root has the name of its link
-  shares_name : (i q : ℕ) (d : Root) (u : ℕ) → q < length roots → (get_or roots q d).tree ≡ Some i → SharesPath (stops_in t) (parent_in t) i (get_or roots q d).node u → IsName t.graph.links (stops_in t) (parent_in t) i u q
+  shares_name : (i q : ℕ) (d : Root) (u : ℕ) → q < length roots → (get_or roots q d).tree ≡ Some i → SharesPath (stops_in t) (parent_in t) i (get_or roots q d).node u → IsPathName t.graph.links (stops_in t) (parent_in t) i u q
   shares_name i q d u lt tree itself =
       let r = root_link t roots q d are lt in
-      let owned : IsOwned (stops_in t) (parent_in t) (number_in t) (get_or roots q d).node (get_or roots q d).other (Some i) = rw tree at (root_stops q d r.0 r.1 lt).owned in
+      let owned : IsOwned (stops_in t) (parent_in t) (rank_in t) (get_or roots q d).node (get_or roots q d).other (Some i) = rw tree at (root_stops q d r.0 r.1 lt).owned in
       let at : JoinsAt t.graph.links q (get_or roots q d).node (get_or roots q d).other = (r.0, r.1, r.2.ends) in
       let place = place_is t.graph (get_or roots q d).node (get_or roots q d).other q is.graph at (any_joins-from t.graph.links q (get_or roots q d).node (get_or roots q d).other at) in
-      subst (λ x. IsName t.graph.links (stops_in t) (parent_in t) i u x) (ap (place_between t.graph.links u) owned.1.parent_is ∙ place) (own owned.1.free owned.1.alone)
+      subst (λ x. IsPathName t.graph.links (stops_in t) (parent_in t) i u x) (ap (place_between t.graph.links u) owned.1.parent_is ∙ place) (own owned.1.free owned.1.alone)
   shares_name i q d u lt tree (below free both rest) = shared free both (shares_name i q d (parent_in t i u) lt tree rest)
 
   -- the names of one link more, which has a tree
@@ -196,15 +196,15 @@ module _ (t : Trees) (is : IsForest t) (roots : List Root) (are : AreRoots t t.g
     size = puts.size ∙ before.size;
     each = λ j v q h free name less. elim (cases_eq q k) [
       | inl e ↦
-          let from = name_rooted j v k d h lt (subst (λ x. IsName t.graph.links (stops_in t) (parent_in t) j v x) e name) in
+          let from = name_rooted j v k d h lt (subst (λ x. IsPathName t.graph.links (stops_in t) (parent_in t) j v x) e name) in
           let same : i ≡ j = some (sym tree ∙ from.0) in
           subst (λ x. name_in new x v ≡ q) same (puts.named v (subst (λ x. SharesPath (stops_in t) (parent_in t) x (get_or roots k d).node v) (sym same) from.1) ∙ sym e)
       | inr ne ↦ elim (puts.others (cell j v)) [
         | inl unchanged ↦ unchanged ∙ before.each j v q h free name (omega (arith, less, ne))
         | inr there ↦
             let one = one_cell j i v there.0 h l there.2 in
-            let k_named : IsName t.graph.links (stops_in t) (parent_in t) j v k = rw (one.0, one.1) (shares_name i k d there.0 lt tree there.1) in
-            absurd (ne (name_one t.graph (stops_in t) (number_in t) (parent_in t) (wood t is) j v q k name k_named))
+            let k_named : IsPathName t.graph.links (stops_in t) (parent_in t) j v k = rw (one.0, one.1) (shares_name i k d there.0 lt tree there.1) in
+            absurd (ne (name_one t.graph (stops_in t) (rank_in t) (parent_in t) (wood t is) j v q k name k_named))
       ]
     ];
   }
@@ -217,7 +217,7 @@ module _ (t : Trees) (is : IsForest t) (roots : List Root) (are : AreRoots t t.g
   named_same k d names lt tree before = record {
     size = before.size;
     each = λ j v q h free name less. elim (cases_eq q k) [
-      | inl e ↦ absurd (none (sym tree ∙ (name_rooted j v k d h lt (subst (λ x. IsName t.graph.links (stops_in t) (parent_in t) j v x) e name)).0))
+      | inl e ↦ absurd (none (sym tree ∙ (name_rooted j v k d h lt (subst (λ x. IsPathName t.graph.links (stops_in t) (parent_in t) j v x) e name)).0))
       | inr ne ↦ before.each j v q h free name (omega (arith, less, ne))
     ];
   }
@@ -231,8 +231,8 @@ module _ (t : Trees) (is : IsForest t) (roots : List Root) (are : AreRoots t t.g
     size = all.size;
     each = λ i v l free.
         let f = wood t is in
-        let name = name_exists t.graph (stops_in t) (number_in t) (parent_in t) f i v (f.trunk i v) (f.climbs i v l) free in
-        let less = name_below t.graph (stops_in t) (number_in t) (parent_in t) f i v name.0 l name.1 in
+        let name = name_exists t.graph (stops_in t) (rank_in t) (parent_in t) f i v (f.trunk i v) (f.climbs i v l) free in
+        let less = name_below t.graph (stops_in t) (rank_in t) (parent_in t) f i v name.0 l name.1 in
         rw (all.each i v name.0 l free name.1 (omega (arith, less, le, are.one_each))) name.1;
   }
 

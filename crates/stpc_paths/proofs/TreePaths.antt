@@ -3,8 +3,8 @@ use Rattle.std.proofs.Common.{◌≡◌, ℕ, ◌+◌, ◌<◌, ◌≤◌, true,
 use Rattle.std.proofs.lemmas.Bool.{both_ways}
 use Rattle.tomo_base.specs.Network.{Network, IsGraph}
 use Rattle.tomo_base.specs.Walks.{StepsFrom, NoneTwice}
-use Rattle.simple_path.proofs.Short.{walk_short}
-use Rattle.indep_trees.specs.Trees.{Climbs, Trees, number_in, parent_in}
+use Rattle.tomo_base.proofs.Paths.{walk_short}
+use Rattle.indep_trees.specs.Trees.{Climbs, Trees, parent_in, rank_in}
 use Rattle.stpc_paths.specs.Kept.{stops, IsForest, monitor_in}
 use Rattle.stpc_paths.proofs.Climbing.{climb_one, climb_once, climb_steps}
 use Rattle.stpc_paths.proofs.Trees.{climb_stops, forest, parent_below}
@@ -18,8 +18,8 @@ steps_fewer g a (b ∷ p) graph lt steps once = omega (arith, walk_short g a b p
 pub climb_short : (t : Trees) (i v : ℕ) (p : List ℕ) → IsForest t → i < 3 → v < t.graph.nodes → Climbs (monitor_in t) (parent_in t i) v p → length p < t.graph.nodes
 climb_short t i v p is l lt c =
     let m = stops t.graph (monitor_in t) in
-    let up = climb_stops t.graph (monitor_in t) (number_in t) (parent_in t) is.graph is.trees i v p l lt c in
-    let f = forest t.graph (monitor_in t) (number_in t) (parent_in t) is.graph is.trees in
+    let up = climb_stops t.graph (monitor_in t) (rank_in t) (parent_in t) is.graph is.trees i v p l lt c in
+    let f = forest t.graph (monitor_in t) (rank_in t) (parent_in t) is.graph is.trees in
     steps_fewer t.graph v p is.graph lt (climb_steps m (parent_in t i) t.graph (λ u free. f.joined i u l free) v p up) (climb_once m (parent_in t i) v p up)
 
 -- after k steps of a tree path: the node that was reached, and what is left of the path
@@ -49,7 +49,7 @@ climb_more t i from node k next old now new is l free goes grown c = on c.rest c
       rest = rest;
       path = c.path;
       left = subst (λ x. Climbs (monitor_in t) (parent_in t i) x rest) (left.1 ∙ sym goes) left.2;
-      below = rw goes (parent_below t.graph (monitor_in t) (number_in t) (parent_in t) is.graph is.trees i node l (c.below, free));
+      below = rw goes (parent_below t.graph (monitor_in t) (rank_in t) (parent_in t) is.graph is.trees i node l (c.below, free));
       short = omega (arith, short);
       same = rw (grown, goes, ← left.1) (append_assoc now (node ∷ []) (w ∷ rest) ∙ same);
     }

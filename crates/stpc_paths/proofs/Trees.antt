@@ -6,7 +6,7 @@ use Rattle.tomo_base.specs.Sets.{has}
 use Rattle.tomo_base.specs.Walks.{StepsFrom, end_of}
 use Rattle.tomo_base.specs.Identify.{IsMonitorPath}
 use Rattle.tomo_base.proofs.Links.{linked_below}
-use Rattle.unit_flow.proofs.Lists.{has_later}
+use Rattle.tomo_base.proofs.Members.{has_later}
 use Rattle.indep_trees.specs.Trees.{Climbs, IsFree, AreIndependent}
 use Rattle.stpc_paths.specs.Kept.{stops}
 use Rattle.stpc_paths.proofs.Climbing.{climb_once, climb_same}

@@ -6,10 +6,10 @@ use Rattle.tomo_base.specs.Sets.{has}
 use Rattle.tomo_base.specs.Search.{entry_at}
 use Rattle.simple_path.specs.declared.recipe.Term.{Term}
 use Rattle.cross_links.specs.Joining.{turned_onto}
-use Rattle.indep_trees.specs.Trees.{Climbs, AreTrees, Trees, number_in, parent_in}
+use Rattle.indep_trees.specs.Trees.{Climbs, AreTrees, Trees, parent_in, rank_in}
 use Rattle.stpc_paths.specs.declared.roots.Root.{Root}
 use Rattle.stpc_paths.specs.Roots.{after, NameEachOther, tree_of, second_start, IsRoot}
-use Rattle.stpc_paths.specs.Names.{IsName}
+use Rattle.stpc_paths.specs.Names.{IsPathName}
 use Rattle.stpc_paths.specs.Terms.{link_terms}
 
 -- the monitors that the trees are for
@@ -24,7 +24,7 @@ pub record IsForest (t : Trees) : Type 0 where
 -- each of the links has its root
 pub record AreRoots (t : Trees) (links : List Link) (roots : List Root) : Type 0 where
   pub one_each : length roots ≡ length links
-  pub each : (e : ℕ) (l : Link) (d : Root) → slice_get links e ≡ Some l → IsRoot (monitor_in t) (parent_in t) (number_in t) l (slice_index_or roots e d)
+  pub each : (e : ℕ) (l : Link) (d : Root) → slice_get links e ≡ Some l → IsRoot (monitor_in t) (parent_in t) (rank_in t) l (slice_index_or roots e d)
 
 -- the path of a link with this root, whatever tree paths there are
 abbrev pub IsPathOf : Trees → Root → List ℕ → Type 0
@@ -67,7 +67,7 @@ pub record PutsName (t : Trees) (i v name : ℕ) (old new : List ℕ) : Type 0 w
 -- the table has the names of all nodes that are no monitors
 pub record AreNames (t : Trees) (names : List ℕ) : Type 0 where
   pub size : length names ≡ 3 * t.graph.nodes
-  pub each : (i v : ℕ) → i < 3 → stops_in t v ≡ false → IsName t.graph.links (stops_in t) (parent_in t) i v (name_in names i v)
+  pub each : (i v : ℕ) → i < 3 → stops_in t v ≡ false → IsPathName t.graph.links (stops_in t) (parent_in t) i v (name_in names i v)
 
 -- the terms of each link by its root and the names
 pub record AreTermsOf (t : Trees) (names : List ℕ) (roots : List Root) (recipes : List (List Term)) : Type 0 where

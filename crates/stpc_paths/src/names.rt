@@ -1,5 +1,6 @@
 // The number of the path that each node has for each tree and the next.
 ghost use Rattle.std.specs.Prelude.{◌≡◌, ◌<◌, ◌≤◌, ◌+◌, ◌*◌, length, IfOk};
+ghost use Rattle.tomo_base.specs.Limits.{graph_link_limit, graph_node_limit};
 ghost use Rattle.indep_trees.specs.Trees.{IsFree};
 ghost use Rattle.stpc_paths.specs.Kept.{IsForest, monitor_in, AreRoots, PutsName, AreNames, cell};
 
@@ -11,7 +12,7 @@ use tomo_base::{NoMemory, NodeSet};
 /// The place of a node and a tree in a table of three columns.
 pub fn cell_of(tree: u32, v: u32) -> usize
     requires tree { tree < 3 }
-    requires node { v < 10000 }
+    requires node { v < graph_node_limit }
     ensures { result ≡ cell tree v }
 {
     3 * v as usize + tree as usize
@@ -30,7 +31,7 @@ fn put_name(
     requires forest { IsForest t.now }
     requires monitors { m.now ≡ t.now.monitors }
     requires nodes { nodes ≡ t.now.graph.nodes }
-    requires few_nodes { nodes ≤ 10000 }
+    requires few_nodes { nodes ≤ graph_node_limit }
     requires tree { tree < 3 }
     requires node { IsFree t.now.graph (monitor_in t.now) from }
     requires size { length names.old.items ≡ 3 * t.now.graph.nodes }
@@ -61,8 +62,8 @@ pub fn names_of(
     requires forest { IsForest t.now }
     requires monitors { m.now ≡ t.now.monitors }
     requires nodes { nodes ≡ t.now.graph.nodes }
-    requires few_nodes { nodes ≤ 10000 }
-    requires few_roots { length roots.now ≤ 20000 }
+    requires few_nodes { nodes ≤ graph_node_limit }
+    requires few_roots { length roots.now ≤ graph_link_limit }
     requires roots { AreRoots t.now t.now.graph.links roots.now }
     ensures { IfOk result (λ n. AreNames t.now n.items) }
 {

@@ -1,7 +1,8 @@
 // The path of each link.
 ghost use Rattle.std.specs.Prelude.{ℕ, ◌≡◌, ◌<◌, ◌≤◌, ◌*◌, ◌++◌, [], ◌∷◌, List, length, IfOk, OnOk, slice_index_or};
+ghost use Rattle.tomo_base.specs.Limits.{graph_link_limit, graph_node_limit};
 ghost use Rattle.simple_path.specs.Pools.{nodes_in};
-ghost use Rattle.indep_trees.specs.Trees.{Climbs, IsFree, number_in, parent_in};
+ghost use Rattle.indep_trees.specs.Trees.{Climbs, IsFree, parent_in, rank_in};
 ghost use Rattle.stpc_paths.specs.Roots.{tree_of, second_start, IsOwned};
 ghost use Rattle.stpc_paths.specs.Kept.{IsForest, monitor_in, AreRoots, IsPathOf, ArePathsOf};
 
@@ -50,7 +51,7 @@ fn start_of(t: &IndepTrees, root: Root) -> Start
     requires forest { IsForest t.now }
     requires node { root.node < t.now.graph.nodes }
     requires other { root.other < t.now.graph.nodes }
-    requires owned { IsOwned (monitor_in t.now) (parent_in t.now) (number_in t.now) root.node root.other root.tree }
+    requires owned { IsOwned (monitor_in t.now) (parent_in t.now) (rank_in t.now) root.node root.other root.tree }
     ensures first { result.tree ≡ tree_of root.tree }
     ensures tree { result.tree < 3 }
     ensures second { result.second ≡ second_start (parent_in t.now) root.node root.other root.tree }
@@ -81,7 +82,7 @@ fn path_of(
     requires nodes { nodes ≡ t.now.graph.nodes }
     requires node { root.node < t.now.graph.nodes }
     requires other { root.other < t.now.graph.nodes }
-    requires owned { IsOwned (monitor_in t.now) (parent_in t.now) (number_in t.now) root.node root.other root.tree }
+    requires owned { IsOwned (monitor_in t.now) (parent_in t.now) (rank_in t.now) root.node root.other root.tree }
     ensures { IfOk result (λ p. IsPathOf t.now root p.items) }
 {
     let start = start_of(t, root);
@@ -104,8 +105,8 @@ pub fn lay_paths(
     requires forest { IsForest t.now }
     requires monitors { m.now ≡ t.now.monitors }
     requires nodes { nodes ≡ t.now.graph.nodes }
-    requires few_nodes { nodes ≤ 10000 }
-    requires few_roots { length roots.now ≤ 20000 }
+    requires few_nodes { nodes ≤ graph_node_limit }
+    requires few_roots { length roots.now ≤ graph_link_limit }
     requires roots { AreRoots t.now t.now.graph.links roots.now }
     requires empty { pool.old ≡ [] }
     ensures { OnOk result (ArePathsOf t.now roots.now pool.new) }

@@ -1,8 +1,9 @@
 // The recipe of each link, by the names of its ends' paths.
 ghost use Rattle.std.specs.Prelude.{◌≡◌, ◌<◌, ◌≤◌, ◌+◌, ◌*◌, ◌^◌, ◌++◌, length, IfOk, OnOk, Some, None};
+ghost use Rattle.tomo_base.specs.Limits.{graph_link_limit, graph_node_limit};
 ghost use Rattle.stpc_paths.specs.Roots.{IsOwned};
 ghost use Rattle.stpc_paths.specs.Terms.{sign, node_terms, link_terms};
-ghost use Rattle.indep_trees.specs.Trees.{number_in, parent_in};
+ghost use Rattle.indep_trees.specs.Trees.{parent_in, rank_in};
 ghost use Rattle.stpc_paths.specs.Kept.{IsForest, monitor_in, AreRoots, AreTermsOf, name_in, stops_in};
 
 use crate::names::cell_of;
@@ -30,7 +31,7 @@ fn add_terms(
     recipe: &mut Recipe,
 ) -> Result<(), NoMemory>
     requires monitors { m.now ≡ t.now.monitors }
-    requires few_nodes { t.now.graph.nodes ≤ 10000 }
+    requires few_nodes { t.now.graph.nodes ≤ graph_node_limit }
     requires tree { tree < 3 }
     requires node { v < t.now.graph.nodes }
     requires size { length names.now ≡ 3 * t.now.graph.nodes }
@@ -68,7 +69,7 @@ fn inside_terms(
     link: u32,
 ) -> Result<Recipe, NoMemory>
     requires monitors { m.now ≡ t.now.monitors }
-    requires few_nodes { t.now.graph.nodes ≤ 10000 }
+    requires few_nodes { t.now.graph.nodes ≤ graph_node_limit }
     requires tree { tree < 3 }
     requires node { root.node < t.now.graph.nodes }
     requires other { root.other < t.now.graph.nodes }
@@ -91,7 +92,7 @@ fn outside_terms(
     link: u32,
 ) -> Result<Recipe, NoMemory>
     requires monitors { m.now ≡ t.now.monitors }
-    requires few_nodes { t.now.graph.nodes ≤ 10000 }
+    requires few_nodes { t.now.graph.nodes ≤ graph_node_limit }
     requires node { root.node < t.now.graph.nodes }
     requires other { root.other < t.now.graph.nodes }
     requires size { length names.now ≡ 3 * t.now.graph.nodes }
@@ -117,10 +118,10 @@ fn recipe_of(
     root: Root,
 ) -> Result<Recipe, NoMemory>
     requires monitors { m.now ≡ t.now.monitors }
-    requires few_nodes { t.now.graph.nodes ≤ 10000 }
+    requires few_nodes { t.now.graph.nodes ≤ graph_node_limit }
     requires node { root.node < t.now.graph.nodes }
     requires other { root.other < t.now.graph.nodes }
-    requires owned { IsOwned (monitor_in t.now) (parent_in t.now) (number_in t.now) root.node root.other root.tree }
+    requires owned { IsOwned (monitor_in t.now) (parent_in t.now) (rank_in t.now) root.node root.other root.tree }
     requires size { length names.now ≡ 3 * t.now.graph.nodes }
     ensures { IfOk result (λ r. r ≡ link_terms (stops_in t.now) (name_in names.now) link root.node root.other root.tree) }
 {
@@ -140,8 +141,8 @@ pub fn recipes_of(
 ) -> Result<Recipes, NoMemory>
     requires forest { IsForest t.now }
     requires monitors { m.now ≡ t.now.monitors }
-    requires few_nodes { t.now.graph.nodes ≤ 10000 }
-    requires few_roots { length roots.now ≤ 20000 }
+    requires few_nodes { t.now.graph.nodes ≤ graph_node_limit }
+    requires few_roots { length roots.now ≤ graph_link_limit }
     requires roots { AreRoots t.now t.now.graph.links roots.now }
     requires size { length names.now ≡ 3 * t.now.graph.nodes }
     ensures { IfOk result (λ r. AreTermsOf t.now names.now roots.now r) }

@@ -1,7 +1,7 @@
 // Whose path each link has.
 ghost use Rattle.std.specs.Prelude.{ℕ, ◌≡◌, ◌<◌, ◌↔◌, length, IsTrue, IfOk, IfSome, IfNone};
 ghost use Rattle.tomo_base.specs.Sets.{has};
-ghost use Rattle.indep_trees.specs.Trees.{IsFree, number_in, parent_in};
+ghost use Rattle.indep_trees.specs.Trees.{IsFree, parent_in, rank_in};
 ghost use Rattle.stpc_paths.specs.Roots.{after, NameEachOther, Owns, IsRoot};
 ghost use Rattle.stpc_paths.specs.Kept.{IsForest, monitor_in, AreRoots};
 
@@ -78,7 +78,7 @@ fn root_of(m: &NodeSet, t: &IndepTrees, link: Link) -> Root
     requires monitors { m.now ≡ t.now.monitors }
     requires first { link.a < link.b }
     requires second { link.b < t.now.graph.nodes }
-    ensures { IsRoot (monitor_in t.now) (parent_in t.now) (number_in t.now) link result }
+    ensures { IsRoot (monitor_in t.now) (parent_in t.now) (rank_in t.now) link result }
 {
     let (a, b) = (link.a, link.b);
     if let Some(tree) = owning_tree(m, t, a, b) {

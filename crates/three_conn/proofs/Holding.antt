@@ -1,15 +1,13 @@
--- A node with three ways to held nodes may be held; and where all nodes are held, the pairs with the root decide.
-use Rattle.std.proofs.Common.{◌≡◌, ◌≢◌, ℕ, ◌+◌, ◌<◌, ◌≤◌, ◌⊎◌, Bool, true, false, ◌==◌, [], ◌∷◌, IsTrue, refl, sym, subst, ◌∙◌, inl, inr, arith}
-use Rattle.std.proofs.lemmas.Bool.{cases_Bool, cases_eq, cases_lt, both_ways, or_cases, or_left, eqb-true}
-use Rattle.tomo_base.specs.Network.{Network, linked, IsGraph}
-use Rattle.tomo_base.specs.Sets.{size, Within, Apart}
+-- A node with three ways to held nodes may be held; and what two nodes part the set where all nodes are held from two roots.
+use Rattle.std.proofs.Common.{◌≡◌, ◌≢◌, ℕ, ◌⊎◌, Bool, true, false, ◌==◌, [], ◌∷◌, IsTrue, refl, sym, subst, ◌∙◌, inl, inr}
+use Rattle.std.proofs.lemmas.Bool.{cases_Bool, cases_eq, both_ways, or_cases, or_left, eqb-true}
+use Rattle.tomo_base.specs.Network.{Network, linked}
+use Rattle.tomo_base.specs.Sets.{Within, Apart}
 use Rattle.tomo_base.specs.Walks.{Reaches, IsConnectedIn}
-use Rattle.tomo_base.proofs.Walks.{Reaches-trans, Reaches_comm, Reaches-within, Reaches-inside, connected_by}
-use Rattle.tomo_base.specs.Parting.{without_two}
-use Rattle.tomo_base.specs.Parting.{with_one}
-use Rattle.three_conn.specs.Held.{IsHeld, IsCheckedTo}
+use Rattle.tomo_base.proofs.Walks.{Reaches-trans, Reaches_comm, Reaches-within, connected_by}
+use Rattle.tomo_base.specs.Parting.{with_one, without_two}
+use Rattle.three_conn.specs.Held.{IsHeld, IsWholeBeside}
 use Rattle.tomo_base.proofs.Parting.{without_two-from, without_two_gives}
-use Rattle.three_conn.proofs.Sets.{one_beside_three}
 
 -- an arm of u: nodes of the set over which a walk leads from u to a held one of them
 pub record IsArm (g : Network) (w held : ℕ → Bool) (u : ℕ) (arm : ℕ → Bool) : Type 0 where
@@ -79,47 +77,32 @@ held_first g w held root root_in are = record {
   ];
 }
 
-module _ (g : Network) (w held : ℕ → Bool) (root : ℕ) (graph : IsGraph g) (h : IsHeld g w root held) (all : Within w held) (checked : IsCheckedTo g w root g.nodes) (four : 4 ≤ size g w) where
-  -- without the root and any second node, a walk joins every two nodes
-  beside_root : (e a b : ℕ) → a < g.nodes → b < g.nodes → IsTrue (without_two w root e a) → IsTrue (without_two w root e b) → Reaches g (without_two w root e) a b
-  beside_root e a b la lb ta tb =
-      let at_a = without_two_gives w root e a ta in
-      let at_b = without_two_gives w root e b tb in
-      let third = one_beside_three g.nodes w root a b four in
-      -- where e takes nothing away, a third node is left out
-      let nothing_more : ((v : ℕ) → v < g.nodes → IsTrue (w v) → v ≢ root → v ≢ e) → Reaches g (without_two w root e) a b = λ off.
-      Reaches-inside g (without_two w root third.0) (without_two w root e) a b graph (λ v l t. let at = without_two_gives w root third.0 v t in without_two-from w root e v at.0 at.1 (off v l at.0 at.1))
-      (checked third.0 third.1 third.2 third.3 a b la lb (without_two-from w root third.0 a at_a.0 at_a.1 (λ s. third.4 (sym s))) (without_two-from w root third.0 b at_b.0 at_b.1 (λ s. third.5 (sym s)))) in
-      elim (cases_eq e root) [
-        | inl same ↦ nothing_more (λ v l t rv ev. rv (ev ∙ same))
-        | inr other ↦ elim (cases_Bool (w e)) [
-          | inr out ↦ nothing_more (λ v l t rv ev. both_ways (w e) out (subst (λ z. w z ≡ true) ev t))
-          | inl there ↦ elim (cases_lt e g.nodes) [
-            | inl node ↦ checked e node there other a b la lb ta tb
-            | inr beyond ↦ nothing_more (λ v l t rv ev. omega (arith, l, ev, beyond))
-          ]
-        ]
-      ]
+-- where all nodes of the set are held, no two nodes other than the root part it
+pub held_whole : (g : Network) (w held : ℕ → Bool) (root : ℕ) → IsHeld g w root held → Within w held → IsWholeBeside g w root
+held_whole g w held root h all c d rc rd =
+    connected_by g (without_two w c d) root (without_two-from w c d root h.root_in (λ e. rc (sym e)) (λ e. rd (sym e)))
+    (λ v l t. h.joined c d v rc rd (all v (without_two_gives w c d v t).0) t)
 
-  -- no two nodes part the set
-  pub all_held : (c d : ℕ) → IsConnectedIn g (without_two w c d)
-  all_held c d = elim (cases_eq c root) [
-    | inl same ↦ subst (λ z. IsConnectedIn g (without_two w z d)) (sym same) (beside_root d)
-    | inr rc ↦ elim (cases_eq d root) [
-      | inl same ↦ λ a b la lb ta tb. Reaches-within g (without_two w root c) (without_two w c d) a b (turned c root c d refl same) (beside_root c a b la lb (turned root c root c refl refl a (rw same at ta)) (turned root c root c refl refl b (rw same at tb)))
-      | inr rd ↦
-          let to : (v : ℕ) → IsTrue (without_two w c d v) → Reaches g (without_two w c d) root v = λ v t. h.joined c d v rc rd (all v (without_two_gives w c d v t).0) t in
-          connected_by g (without_two w c d) root (without_two-from w c d root h.root_in (λ e. rc (sym e)) (λ e. rd (sym e))) (λ v l t. to v t)
+-- the same nodes stay without the two in the other order
+turned : (w : ℕ → Bool) (c d v : ℕ) → IsTrue (without_two w c d v) → IsTrue (without_two w d c v)
+turned w c d v t = let at = without_two_gives w c d v t in without_two-from w d c v at.0 at.2 at.1
+
+-- and they are connected
+connected_turned : (g : Network) (w : ℕ → Bool) (c d : ℕ) → IsConnectedIn g (without_two w c d) → IsConnectedIn g (without_two w d c)
+connected_turned g w c d pair a b la lb ta tb = Reaches-within g (without_two w c d) (without_two w d c) a b (turned w c d) (pair a b la lb (turned w d c a ta) (turned w d c b tb))
+
+-- no two nodes part a set that none part beside the one root, none beside the other, and not the two together
+pub two_roots : (g : Network) (w : ℕ → Bool) (r s : ℕ) → r ≢ s → IsWholeBeside g w r → IsWholeBeside g w s → IsConnectedIn g (without_two w r s) → (c d : ℕ) → IsConnectedIn g (without_two w c d)
+two_roots g w r s differ first second pair c d = elim (cases_eq c r) [
+  | inl cr ↦ elim (cases_eq d s) [
+    | inl ds ↦ subst (λ z. IsConnectedIn g (without_two w z d)) (sym cr) (subst (λ z. IsConnectedIn g (without_two w r z)) (sym ds) pair)
+    | inr nd ↦ second c d (λ cs. differ (sym cr ∙ cs)) nd
+  ]
+  | inr nc ↦ elim (cases_eq d r) [
+    | inr nd ↦ first c d nc nd
+    | inl dr ↦ elim (cases_eq c s) [
+      | inl cs ↦ subst (λ z. IsConnectedIn g (without_two w z d)) (sym cs) (subst (λ z. IsConnectedIn g (without_two w s z)) (sym dr) (connected_turned g w r s pair))
+      | inr ncs ↦ second c d ncs (λ ds. differ (sym dr ∙ ds))
     ]
   ]
-    where
-      -- the two in the other order
-      turned : (x y u v : ℕ) → u ≡ x → v ≡ y → Within (without_two w y x) (without_two w u v)
-      turned x y u v ux vy z t = let at = without_two_gives w y x z t in without_two-from w u v z at.0 (λ e. at.2 (e ∙ ux)) (λ e. at.1 (e ∙ vy))
-
--- one node more is checked
-pub checked_more : (g : Network) (w : ℕ → Bool) (root v : ℕ) → IsCheckedTo g w root v → (w v ≡ true → v ≢ root → IsConnectedIn g (without_two w root v)) → IsCheckedTo g w root (v + 1)
-checked_more g w root v before here u l t other = elim (cases_eq u v) [
-  | inl same ↦ subst (λ z. IsConnectedIn g (without_two w root z)) (sym same) (here (subst (λ z. w z ≡ true) same t) (λ e. other (same ∙ e)))
-  | inr less ↦ before u (omega (arith, l, less)) t other
 ]

@@ -1,6 +1,6 @@
--- Numbers of a set other than three.
-use Rattle.std.proofs.Common.{◌≡◌, ◌≢◌, ℕ, ◌<◌, ◌≤◌, Bool, true, false, not, ◌&&◌, ◌||◌, ◌==◌, List, [], ◌∷◌, length, sym, arith, inl, inr}
-use Rattle.std.proofs.lemmas.Bool.{cases_Bool, both_ways, and_parts, and_from, or_left, or_right, not_from_false, not-true, eq-eqb}
+-- Numbers of a set beside those of a list.
+use Rattle.std.proofs.Common.{◌≡◌, ◌≢◌, ℕ, ◌<◌, ◌≤◌, Bool, true, false, not, ◌&&◌, ◌==◌, List, [], ◌∷◌, length, sym, arith, inl, inr}
+use Rattle.std.proofs.lemmas.Bool.{cases_Bool, both_ways, and_parts, and_from, or_left, not_from_false, not-true, eq-eqb}
 use Rattle.tomo_base.specs.Sets.{count, has}
 use Rattle.tomo_base.proofs.Counts.{find, count-mono}
 use Rattle.tomo_base.proofs.Members.{count_has-le}
@@ -17,16 +17,9 @@ one_beside n w xs more = elim (find n (λ z. w z && not (has xs z))) [
       absurd (omega (arith, few, more, count_has-le n xs))
 ]
 
--- a set of four numbers has one other than three
-pub one_beside_three : (n : ℕ) (w : ℕ → Bool) (a b c : ℕ) → 4 ≤ count n w → (z : ℕ) × (z < n) × (w z ≡ true) × (z ≢ a) × (z ≢ b) × (z ≢ c)
+-- a set of two numbers has one other than this
+pub one_beside_one : (n : ℕ) (w : ℕ → Bool) (a : ℕ) → 2 ≤ count n w → (z : ℕ) × (z < n) × (w z ≡ true) × (z ≢ a)
 unfolding has
-one_beside_three n w a b c four =
-    let r = one_beside n w (a ∷ b ∷ c ∷ []) (omega (arith, four)) in
-    let off : (e : ℕ) → (r.0 ≡ e → has (a ∷ b ∷ c ∷ []) r.0 ≡ true) → r.0 ≢ e = λ e there same. both_ways (has (a ∷ b ∷ c ∷ []) r.0) r.3 (there same) in (
-      r.0,
-      r.1,
-      r.2,
-      off a (λ e. or_left (a == r.0) ((b == r.0) || ((c == r.0) || false)) (eq-eqb a r.0 (sym e))),
-      off b (λ e. or_right (a == r.0) ((b == r.0) || ((c == r.0) || false)) (or_left (b == r.0) ((c == r.0) || false) (eq-eqb b r.0 (sym e)))),
-      off c (λ e. or_right (a == r.0) ((b == r.0) || ((c == r.0) || false)) (or_right (b == r.0) ((c == r.0) || false) (or_left (c == r.0) false (eq-eqb c r.0 (sym e))))),
-    )
+one_beside_one n w a two =
+    let r = one_beside n w (a ∷ []) (omega (arith, two)) in
+    (r.0, r.1, r.2, λ same. both_ways (has (a ∷ []) r.0) r.3 (or_left (a == r.0) false (eq-eqb a r.0 (sym same))))

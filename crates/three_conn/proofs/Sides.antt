@@ -9,8 +9,8 @@ use Rattle.tomo_base.specs.declared.search.Swept.{Swept}
 use Rattle.tomo_base.specs.Parting.{without_two}
 use Rattle.three_conn.specs.Parting.{IsParted}
 use Rattle.tomo_base.proofs.Walks.{Reaches-within, stays_in, connected_by}
-use Rattle.tomo_base.proofs.Searching.{search_reaches}
-use Rattle.three_conn.proofs.Steps.{ranked_in, free_in, first_in, order_closed}
+use Rattle.gate_search.proofs.Trees.{ranked_in, free_in, first_in, order_closed}
+use Rattle.tomo_base.proofs.Reached.{search_reaches}
 
 -- what two nodes part is not connected without them
 pub parted_apart : (g : Network) (w side : ℕ → Bool) (c d : ℕ) → IsParted g w side c d → IsConnectedIn g (without_two w c d) → ⊥
@@ -23,15 +23,15 @@ module _ (g : Network) (free : List Bool) (w : ℕ → Bool) (c d x : ℕ) (s : 
   -- a free node that the search has not reached
   pub missed_parts : (v : ℕ) → v < g.nodes → mark_of free v ≡ true → g.nodes ≤ entry_at s.rank.items v → IsParted g w (has s.order.items) c d
   missed_parts v l t out = record {
-    inside = λ u k. sym (are u) ∙ free_in g free x s graph sweep u k;
-    shut = λ a b k j i. order_closed g free x s graph sweep a b k j (are b ∙ i);
-    some = (x, node, first_in g free x s graph sweep);
+    inside = λ u k. sym (are u) ∙ free_in g free x (length s.order.items) s graph sweep u k;
+    shut = λ a b k j i. order_closed g free x (length s.order.items) s graph sweep (omega arith) a b k j (are b ∙ i);
+    some = (x, node, first_in g free x (length s.order.items) s graph sweep);
     rest = (
       v,
       l,
       sym (are v) ∙ t,
       elim (cases_Bool (has s.order.items v)) [
-        | inl k ↦ let r = ranked_in g free x s graph sweep v k in absurd (omega (arith, r.1, out, sweep.parents))
+        | inl k ↦ let r = ranked_in g free x (length s.order.items) s graph sweep v k in absurd (omega (arith, r.1, out, sweep.parents))
         | inr k ↦ k
       ],
     );

@@ -1,21 +1,24 @@
 -- What one step of growing gives: three ways from a node to held nodes, or a side with at most two held neighbours.
-use Rattle.std.proofs.Common.{◌≡◌, ◌≢◌, ℕ, ◌+◌, ◌<◌, ◌≤◌, ◌⊎◌, Bool, true, false, not, ◌==◌, List, [], ◌∷◌, length, All, IsTrue, refl, sym, ap, subst, ◌∙◌, inl, inr, arith}
+use Rattle.std.proofs.Common.{◌≡◌, ◌≢◌, ℕ, ◌+◌, ◌<◌, ◌≤◌, ◌⊎◌, Bool, true, false, not, ◌==◌, List, [], ◌∷◌, length, IsTrue, refl, sym, ap, subst, ◌∙◌, inl, inr, arith}
 use Rattle.std.proofs.lemmas.Bool.{cases_Bool, both_ways, and_parts, and_from, or_cases, or_left, or_right, eqb-true, eq-eqb}
 use Rattle.tomo_base.specs.Network.{Network, linked, IsGraph}
 use Rattle.tomo_base.specs.Sets.{has, Within, Apart}
 use Rattle.tomo_base.specs.Walks.{Reaches}
-use Rattle.tomo_base.specs.Search.{mark_of, entry_at, IsSweep}
+use Rattle.tomo_base.specs.Search.{mark_of, entry_at, IsSearch}
 use Rattle.tomo_base.specs.declared.search.Swept.{Swept}
 use Rattle.tomo_base.proofs.Links.{linked_below, linked_comm}
 use Rattle.tomo_base.proofs.Walks.{Reaches-step, Reaches-within}
-use Rattle.tomo_base.proofs.Ascending.{place_in, has-at, All-has, All-from_has}
-use Rattle.tomo_base.proofs.Searching.{few_ranked, ranked_below, placed_free, parent_at, way_up}
+use Rattle.tomo_base.proofs.Ascending.{place_in}
 use Rattle.tomo_base.specs.Parting.{with_one}
 use Rattle.three_conn.specs.Held.{IsHeld, IsRest}
 use Rattle.three_conn.specs.Parting.{IsParting}
-use Rattle.three_conn.specs.Trees.{IsRanked, IsTree, GoesUpTo, IsWayUp, IsGate, HasNoGate}
+use Rattle.gate_search.specs.Trees.{IsRanked}
+use Rattle.gate_search.specs.Gates.{IsGate, HasNoGate}
+use Rattle.gate_search.proofs.Trees.{free_in, ranked_at, ranked_free, first_in, order_closed, way_down}
+use Rattle.three_conn.specs.WaysUp.{IsWayUp}
 use Rattle.three_conn.proofs.Holding.{IsArm, held_more}
 use Rattle.tomo_base.proofs.Parting.{without_two-from, without_two_gives}
+use Rattle.tomo_base.proofs.Reached.{ranked_below, placed_free, way_up}
 
 -- a set with one node more has the node
 with_one-here : (q : ℕ → Bool) (u : ℕ) → IsTrue (with_one q u u)
@@ -37,85 +40,7 @@ held_other w held free v rest t out = elim (cases_Bool (held v)) [
   | inr h ↦ absurd (both_ways (free v) out (rest v ∙ and_from (w v) (not (held v)) t (ap not h)))
 ]
 
-module _ (g : Network) (free : List Bool) (x : ℕ) (s : Swept) (graph : IsGraph g) (sweep : IsSweep g free (x ∷ []) s) where
-  -- what is in the order has a rank
-  pub ranked_in : (v : ℕ) → IsTrue (has s.order.items v) → IsRanked s v
-  ranked_in v h =
-      let at = place_in s.order.items v h in
-      let is = sweep.ranks.ranked at.0 at.1 in
-      let node : v < g.nodes = subst (λ z. z < g.nodes) at.2 is.0 in
-      let rank : entry_at s.rank.items v ≡ at.0 = subst (λ z. entry_at s.rank.items z ≡ at.0) at.2 is.1 in
-      (omega (arith, node, sweep.parents), omega (arith, rank, at.1, few_ranked g.nodes free s.order.items s.rank.items sweep.ranks, sweep.parents))
-
-  -- it is free
-  pub free_in : (v : ℕ) → IsTrue (has s.order.items v) → mark_of free v ≡ true
-  free_in v h = let at = place_in s.order.items v h in subst (λ z. mark_of free z ≡ true) at.2 (sweep.ranks.allowed at.0 at.1)
-
-  -- a node with a rank is in the order, at its place
-  ranked_at : (v : ℕ) → IsRanked s v → (v < g.nodes) × (entry_at s.rank.items v < length s.order.items) × (entry_at s.order.items (entry_at s.rank.items v) ≡ v)
-  ranked_at v r =
-      let node : v < g.nodes = omega (arith, r.0, sweep.parents) in
-      let at = sweep.ranks.placed v node (omega (arith, r.1, sweep.parents)) in
-      (node, at.0, at.1)
-
-  -- so it stands there
-  pub in_ranked : (v : ℕ) → v < g.nodes → entry_at s.rank.items v < g.nodes → IsTrue (has s.order.items v)
-  in_ranked v node ranked =
-      let at = sweep.ranks.placed v node ranked in
-      subst (λ z. has s.order.items z ≡ true) at.1 (has-at s.order.items (entry_at s.rank.items v) 0 at.0)
-
-  -- a node with a rank is free
-  pub ranked_free : (v : ℕ) → IsRanked s v → (v < g.nodes) × (mark_of free v ≡ true)
-  ranked_free v r = let at = ranked_at v r in (at.0, subst (λ z. mark_of free z ≡ true) at.2 (sweep.ranks.allowed (entry_at s.rank.items v) at.1))
-
-  -- all of the order are nodes
-  pub order_below : All (λ v. v < g.nodes) s.order.items
-  order_below = All-from_has (λ v. v < g.nodes) s.order.items (λ v h. omega (arith, (ranked_in v h).0, sweep.parents))
-
-  -- the first node is in the order
-  pub first_in : IsTrue (has s.order.items x)
-  first_in = let first = sweep.begins 0 (omega arith) in subst (λ z. has s.order.items z ≡ true) first.1 (has-at s.order.items 0 0 first.0)
-
-  -- no link leaves the order to another free node
-  pub order_closed : (u v : ℕ) → IsTrue (has s.order.items u) → IsTrue (linked g u v) → mark_of free v ≡ true → IsTrue (has s.order.items v)
-  order_closed u v h l t =
-      let at = place_in s.order.items u h in
-      in_ranked v (linked_below g.nodes g.links u v graph l).1 (sweep.closed at.0 v at.1 (subst (λ z. IsTrue (linked g z v)) (sym at.2) l) t)
-
-  -- the search is a tree
-  pub is_tree : IsTree s
-  is_tree = record {
-    one_each = sweep.ranks.one_each ∙ sym sweep.parents;
-    up = λ v r some.
-        let at = ranked_at v r in
-        let up = parent_at g free x (length s.order.items) s.order.items s.parent.items s.rank.items graph sweep (entry_at s.rank.items v) some at.1 in
-        let p = entry_at s.parent.items v in
-        let same : entry_at s.parent.items (entry_at s.order.items (entry_at s.rank.items v)) ≡ p = ap (entry_at s.parent.items) at.2 in
-        let node : p < g.nodes = subst (λ z. z < g.nodes) same up.0 in
-        let low : entry_at s.rank.items p < entry_at s.rank.items v = subst (λ z. entry_at s.rank.items z < entry_at s.rank.items v) same up.1 in
-        ((omega (arith, node, sweep.parents), omega (arith, low, r.1)), low);
-    once = λ v u r t same. sym (ranked_at v r).2 ∙ (ap (entry_at s.order.items) same ∙ (ranked_at u t).2);
-  }
-
-  -- a link joins a node and its parent
-  parent_linked : (v : ℕ) → IsRanked s v → 1 ≤ entry_at s.rank.items v → IsTrue (linked g (entry_at s.parent.items v) v)
-  parent_linked v r some =
-      let at = ranked_at v r in
-      let up = parent_at g free x (length s.order.items) s.order.items s.parent.items s.rank.items graph sweep (entry_at s.rank.items v) some at.1 in
-      subst (λ z. IsTrue (linked g (entry_at s.parent.items z) z)) at.2 up.2
-
-  -- a way up, walked down
-  way_down : (y : ℕ) (p : List ℕ) (u : ℕ) → GoesUpTo s.parent.items y p u → ((v : ℕ) → IsTrue (has p v) → IsRanked s v × (1 ≤ entry_at s.rank.items v)) → Reaches g (has p) u y
-  unfolding has
-  way_down y [] u h up = ([], tt, tt, sym h)
-  way_down y (e ∷ p) u h up =
-      let here : IsTrue (has (e ∷ p) e) = or_left (e == e) (has p e) (eq-eqb e e refl) in
-      let at = up e here in
-      let rest : Reaches g (has p) u (entry_at s.parent.items e) = way_down (entry_at s.parent.items e) p u h.1 (λ v k. up v (or_right (e == v) (has p v) k)) in
-      subst (λ z. Reaches g (has (e ∷ p)) u z) (sym h.0)
-      (Reaches-step g (has (e ∷ p)) u (entry_at s.parent.items e) e (Reaches-within g (has p) (has (e ∷ p)) u (entry_at s.parent.items e) (λ v k. or_right (e == v) (has p v) k) rest)
-      (parent_linked e at.0 at.1) here)
-
+module _ (g : Network) (free : List Bool) (x head : ℕ) (s : Swept) (graph : IsGraph g) (search : IsSearch g free (x ∷ []) head s.order.items s.parent.items s.rank.items) where
   module _ (w : ℕ → Bool) where
     -- two sets of free nodes, each with a node that is not free, share no node where the sets and the two nodes do not
     feet_apart : (p q : ℕ → Bool) (a b : ℕ) → Within p (mark_of free) → Within q (mark_of free) → mark_of free a ≡ false → mark_of free b ≡ false → a ≢ b → Apart p q → Apart (with_one p a) (with_one q b)
@@ -149,18 +74,18 @@ module _ (g : Network) (free : List Bool) (x : ℕ) (s : Swept) (graph : IsGraph
     meeting_held y z u a b e c₁ d₁ ways ranked first second third root held h rest =
         let n = g.nodes in
         let r = entry_at s.rank.items u in
-        let at = ranked_at u ranked in
-        let few : r ≤ n = omega (arith, ranked.1, sweep.parents) in
+        let at = ranked_at g free x head s graph search u ranked in
+        let few : r ≤ n = omega (arith, ranked.1, search.parents) in
         let low : ℕ → Bool = ranked_below n s.rank.items r in
-        let lower : (v : ℕ) → IsTrue (low v) → entry_at s.rank.items v < r = λ v t. (placed_free g free x (length s.order.items) s.order.items s.parent.items s.rank.items graph sweep v r few t).1 in
-        let low_free : Within low (mark_of free) = λ v t. (placed_free g free x (length s.order.items) s.order.items s.parent.items s.rank.items graph sweep v r few t).4 in
-        let is_free : (v : ℕ) → IsRanked s v → mark_of free v ≡ true = λ v k. (ranked_free v k).1 in
+        let lower : (v : ℕ) → IsTrue (low v) → entry_at s.rank.items v < r = λ v t. (placed_free g free x head s.order.items s.parent.items s.rank.items graph search v r few t).1 in
+        let low_free : Within low (mark_of free) = λ v t. (placed_free g free x head s.order.items s.parent.items s.rank.items graph search v r few t).4 in
+        let is_free : (v : ℕ) → IsRanked s v → mark_of free v ≡ true = λ v k. (ranked_free g free x head s graph search v k).1 in
         let high : (v : ℕ) → IsTrue (has ways.first v) ⊎ IsTrue (has ways.second v) → IsRanked s v × (1 ≤ entry_at s.rank.items v) = λ v k. let o = ways.above v k in (o.0, omega (arith, o.1)) in
         let first_free : Within (has ways.first) (mark_of free) = λ v k. is_free v (high v (inl k)).0 in
         let second_free : Within (has ways.second) (mark_of free) = λ v k. is_free v (high v (inr k)).0 in
-        let to_x : Reaches g low u x = subst (λ o. Reaches g low o x) at.2 (way_up g free x (length s.order.items) s.order.items s.parent.items s.rank.items graph sweep (r + 1) r (omega arith) at.1) in
-        let to_y : Reaches g (has ways.first) u y = way_down y ways.first u ways.first_leads (λ v k. high v (inl k)) in
-        let to_z : Reaches g (has ways.second) u z = way_down z ways.second u ways.second_leads (λ v k. high v (inr k)) in
+        let to_x : Reaches g low u x = subst (λ o. Reaches g low o x) at.2 (way_up g free x head s.order.items s.parent.items s.rank.items graph search (r + 1) r (omega arith) at.1) in
+        let to_y : Reaches g (has ways.first) u y = way_down g free x head s graph search y ways.first u ways.first_leads (λ v k. high v (inl k)) in
+        let to_z : Reaches g (has ways.second) u z = way_down g free x head s graph search z ways.second u ways.second_leads (λ v k. high v (inr k)) in
         let below_first : Apart low (has ways.first) = λ v k l. omega (arith, lower v k, (ways.above v (inl l)).1) in
         let below_second : Apart low (has ways.second) = λ v k l. omega (arith, lower v k, (ways.above v (inr l)).1) in
         held_more g w held (with_one low a) (with_one (has ways.first) b) (with_one (has ways.second) e) root u h
@@ -179,14 +104,14 @@ module _ (g : Network) (free : List Bool) (x : ℕ) (s : Swept) (graph : IsGraph
     pub gate_end : (i c d e : ℕ) → IsTrue (has s.order.items i) → IsGate g w (mark_of free) i c d e → IsEnd e
     gate_end i c d e h gate = inr (i, c, d, h, gate)
 
-    -- where all gates of the search lead to two nodes, or fewer, these part the set
-    pub few_gates : ((v : ℕ) → IsTrue (w v) → v < g.nodes) → (c d : ℕ) → All (λ v. HasNoGate g w (mark_of free) v c d) s.order.items → IsEnd c → IsEnd d
+    -- where the search has looked at all that it has reached, and all gates of these lead to two nodes, or fewer, these part the set
+    pub few_gates : ((v : ℕ) → IsTrue (w v) → v < g.nodes) → (c d : ℕ) → length s.order.items ≤ head → ((k : ℕ) → k < head → HasNoGate g w (mark_of free) (entry_at s.order.items k) c d) → IsEnd c → IsEnd d
         → (root : ℕ) (held : ℕ → Bool) → IsHeld g w root held → IsRest w held (mark_of free) → IsParting g w (record { side = s.order; first = c; second = d })
-    few_gates below c d none end_c end_d root held h rest =
-        let in_set : (v : ℕ) → IsTrue (has s.order.items v) → IsTrue (w v) × (held v ≡ true → ⊥) = λ v k. free_gives w held (mark_of free) v rest (free_in v k) in
+    few_gates below c d all none end_c end_d root held h rest =
+        let in_set : (v : ℕ) → IsTrue (has s.order.items v) → IsTrue (w v) × (held v ≡ true → ⊥) = λ v k. free_gives w held (mark_of free) v rest (free_in g free x head s graph search v k) in
         let other : (e : ℕ) → IsEnd e → (v : ℕ) → IsTrue (has s.order.items v) → v ≢ e = λ e end v k same. elim end [
           | inl out ↦ omega (arith, below v (in_set v k).0, same, out)
-          | inr gate ↦ both_ways (mark_of free e) gate.4.not_free (subst (λ z. mark_of free z ≡ true) same (free_in v k))
+          | inr gate ↦ both_ways (mark_of free e) gate.4.not_free (subst (λ z. mark_of free z ≡ true) same (free_in g free x head s graph search v k))
         ] in
         let root_other : (e : ℕ) → IsEnd e → root ≢ e = λ e end same. elim end [
           | inl out ↦ omega (arith, below root h.root_in, same, out)
@@ -196,15 +121,15 @@ module _ (g : Network) (free : List Bool) (x : ℕ) (s : Swept) (graph : IsGraph
           | inl out ↦ omega (arith, out)
           | inr gate ↦ omega (arith, (linked_below g.nodes g.links gate.0 e graph gate.4.linked).1)
         ] in
-        let gates : (u v : ℕ) → IsTrue (has s.order.items u) → IsTrue (linked g u v) → IsTrue (w v) → mark_of free v ≡ false → (v ≡ c) ⊎ (v ≡ d) = λ u v k l t out. All-has (λ i. HasNoGate g w (mark_of free) i c d) s.order.items none u k v l t out in
+        let gates : (u v : ℕ) → IsTrue (has s.order.items u) → IsTrue (linked g u v) → IsTrue (w v) → mark_of free v ≡ false → (v ≡ c) ⊎ (v ≡ d) = λ u v k l t out. let at = place_in s.order.items u k in none at.0 (omega (arith, at.1, all)) v (subst (λ z. IsTrue (linked g z v)) (sym at.2) l) t out in
         record {
           parted = record {
             inside = λ v k. without_two-from w c d v (in_set v k).0 (other c end_c v k) (other d end_d v k);
             shut = λ u v k l t. let at = without_two_gives w c d v t in elim (cases_Bool (mark_of free v)) [
-              | inl is_free ↦ order_closed u v k l is_free
+              | inl is_free ↦ order_closed g free x head s graph search all u v k l is_free
               | inr out ↦ absurd (elim (gates u v k l at.0 out) [ inl e ↦ at.1 e | inr e ↦ at.2 e ])
             ];
-            some = (x, below x (in_set x first_in).0, first_in);
+            some = (x, below x (in_set x (first_in g free x head s graph search)).0, first_in g free x head s graph search);
             rest = (
               root,
               below root h.root_in,

@@ -4,13 +4,9 @@ use Rattle.std.proofs.lemmas.Bool.{true≢false, or_cases, eqb-true}
 use Rattle.tomo_base.specs.Sets.{has}
 use Rattle.tomo_base.specs.Search.{entry_at}
 use Rattle.tomo_base.specs.declared.search.Swept.{Swept}
-use Rattle.tomo_base.proofs.Members.{has-append}
-use Rattle.three_conn.specs.Trees.{IsRanked, IsTree, GoesUpTo, IsWayUp}
-
--- nothing stands in the empty list
-none_in_empty : (v : ℕ) → IsTrue (has [] v) → ⊥
-unfolding has
-none_in_empty v h = true≢false (sym h)
+use Rattle.tomo_base.proofs.Members.{has-append, none_in}
+use Rattle.gate_search.specs.Trees.{IsRanked, IsTree, GoesUpTo}
+use Rattle.three_conn.specs.WaysUp.{IsWayUp}
 
 -- a number of a list with one more stands in the list, or is the new one
 in_pushed : (p : List ℕ) (u v : ℕ) → IsTrue (has (p ++ u ∷ []) v) → IsTrue (has p v) ⊎ (v ≡ u)
@@ -32,8 +28,8 @@ ways_none s y z = record {
   second = [];
   first_leads = refl;
   second_leads = refl;
-  apart = λ v h k. none_in_empty v h;
-  above = λ w h. absurd (elim h [ inl k ↦ none_in_empty w k | inr k ↦ none_in_empty w k ]);
+  apart = λ v h k. none_in v h;
+  above = λ w h. absurd (elim h [ inl k ↦ none_in w k | inr k ↦ none_in w k ]);
 }
 
 -- the two ways may be exchanged

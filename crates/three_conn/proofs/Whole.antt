@@ -1,21 +1,20 @@
 -- What no two nodes part is three-connected, and what two nodes part is not.
-use Rattle.std.proofs.Common.{◌≡◌, ℕ, ◌-◌, ◌<◌, ◌≤◌, ◌⊎◌, Bool, true, false, not, ◌||◌, ◌==◌, List, [], ◌∷◌, length, get_or, replicate, All, IfOk, IfNone, Result, Ok, Err, Option, Some, None, refl, sym, ap, subst, ◌∙◌, inl, inr, arith}
+use Rattle.std.proofs.Common.{◌≡◌, ℕ, ◌<◌, ◌≤◌, ◌⊎◌, Bool, true, false, not, ◌||◌, ◌==◌, List, [], ◌∷◌, length, replicate, All, IfOk, IfNone, Result, Ok, Err, Option, Some, None, refl, sym, ap, subst, ◌∙◌, inl, inr, arith}
 use Rattle.std.proofs.lemmas.Bool.{cases_Bool, both_ways, and_parts, and_from, or_cases, or_left, or_right, not_from_false, not-true, false_from_ne_true, eqb-true, eq-eqb, ne_eqb}
-use Rattle.std.proofs.lemmas.List.{get_or-replicate, get_or_default}
+use Rattle.std.proofs.lemmas.List.{get_or-replicate}
 use Rattle.std.proofs.lemmas.Bool.Decides.{nat_tests}
 use Rattle.std.specs.List.Sorted.{IsStrictlyIncreasing}
 use Rattle.tomo_base.specs.Network.{Network, IsGraph}
 use Rattle.tomo_base.specs.Sets.{count, has, size, minus, complement}
 use Rattle.tomo_base.specs.Walks.{IsConnectedIn, everything}
-use Rattle.tomo_base.specs.Search.{mark_of, IsSweep}
-use Rattle.tomo_base.specs.declared.search.Swept.{Swept}
+use Rattle.tomo_base.specs.Search.{mark_of}
 use Rattle.tomo_base.specs.Cuts.{IsThreeConnected}
 use Rattle.tomo_base.proofs.Counts.{count_two, count-everything, count-mono}
 use Rattle.tomo_base.proofs.Members.{count-has, count_has-le}
 use Rattle.tomo_base.proofs.Walks.{connected_inside}
 use Rattle.tomo_base.proofs.Ascending.{All-from_has}
 use Rattle.tomo_base.specs.Parting.{without_two, IsThreeConnectedIn}
-use Rattle.three_conn.specs.Parting.{IsParted, IsWholeAcross}
+use Rattle.three_conn.specs.Parting.{IsParted}
 use Rattle.three_conn.specs.Answers.{IsSeparating}
 use Rattle.three_conn.specs.declared.known.Parting.{Parting}
 use Rattle.tomo_base.specs.declared.memory.NoMemory.{NoMemory}
@@ -119,19 +118,6 @@ pub then_whole : (r : Result (Option Parting) NoMemory) (A B : Type 0) → IfOk 
 then_whole (Ok (Some p)) A B h f = h
 then_whole (Ok None) A B h f = f h
 then_whole (Err e) A B h f = h
-
--- what is known where the root and the last node that was reached do not part the set
-pub none_across : (g : Network) (nodes : List Bool) (root last : ℕ) (s : Swept) (r : Result (Option Parting) NoMemory) → IsSweep g nodes (root ∷ []) s → (n : ℕ) → n ≡ length s.order.items → last ≡ get_or s.order.items (n - 1) last
-    → IfOk r (λ o. IfNone o (IsConnectedIn g (without_two (mark_of nodes) root last))) → IfOk r (λ o. IfNone o (IsWholeAcross g nodes root))
-none_across g nodes root last s r sweep n size at whole = then_whole r (IsConnectedIn g (without_two (mark_of nodes) root last)) (IsWholeAcross g nodes root) whole (λ w.
-    let some = (sweep.begins 0 (omega arith)).0 in
-    record {
-      found = s;
-      search = sweep;
-      place = n - 1;
-      last = omega (arith, some, size);
-      whole = subst (λ z. IsConnectedIn g (without_two (mark_of nodes) root z)) (at ∙ get_or_default s.order.items (n - 1) last 0 (omega (arith, some, size))) w;
-    })
 
 -- a set with all of four numbers has four
 pub all_marked_size : (n : ℕ) (w : ℕ → Bool) → ((v : ℕ) → v < n → w v ≡ true) → 4 ≤ n → 4 ≤ count n w

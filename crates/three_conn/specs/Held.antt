@@ -3,6 +3,7 @@ use Rattle.std.specs.Prelude.{ℕ, ◌≡◌, ◌≢◌, ◌<◌, Bool, true, no
 use Rattle.tomo_base.specs.Network.{Network, linked}
 use Rattle.tomo_base.specs.Walks.{Reaches, IsConnectedIn}
 use Rattle.tomo_base.specs.Search.{mark_of}
+use Rattle.tomo_base.specs.declared.search.Swept.{Swept}
 use Rattle.tomo_base.specs.Parting.{with_one, without_two}
 use Rattle.three_conn.specs.Parting.{IsParting}
 use Rattle.three_conn.specs.declared.known.Known.{Known}
@@ -16,9 +17,9 @@ pub record IsHeld (g : Network) (w : ℕ → Bool) (root : ℕ) (held : ℕ → 
   pub near : (v : ℕ) → IsTrue (linked g root v) → IsTrue (w v) → IsTrue (held v)
   pub joined : (c d v : ℕ) → c ≢ root → d ≢ root → IsTrue (held v) → IsTrue (without_two w c d v) → Reaches g (without_two w c d) root v
 
--- the root and no node below the end part the set
-abbrev pub IsCheckedTo : Network → (ℕ → Bool) → ℕ → ℕ → Type 0
-IsCheckedTo g w root end = (v : ℕ) → v < end → IsTrue (w v) → v ≢ root → IsConnectedIn g (without_two w root v)
+-- no two nodes other than the root part the set
+abbrev pub IsWholeBeside : Network → (ℕ → Bool) → ℕ → Type 0
+IsWholeBeside g w root = (c d : ℕ) → c ≢ root → d ≢ root → IsConnectedIn g (without_two w c d)
 
 -- what is known of the set
 pub record IsKnown (g : Network) (w : ℕ → Bool) (known : Known) : Type 0 where
@@ -29,7 +30,7 @@ pub record IsKnown (g : Network) (w : ℕ → Bool) (known : Known) : Type 0 whe
 abbrev pub IsRest : (ℕ → Bool) → (ℕ → Bool) → (ℕ → Bool) → Type 0
 IsRest w held free = (v : ℕ) → free v ≡ (w v && not (held v))
 
--- one free node more may be held, or the set is parted: whatever the root is, where the free nodes are those that are not held
-abbrev pub IsGrowth : Network → (ℕ → Bool) → (ℕ → Bool) → Growth → Type 0
-IsGrowth g w free (More u) = (u < g.nodes) × (free u ≡ true) × ((root : ℕ) (held : ℕ → Bool) → IsHeld g w root held → IsRest w held free → IsHeld g w root (with_one held u))
-IsGrowth g w free (Parted p) = (root : ℕ) (held : ℕ → Bool) → IsHeld g w root held → IsRest w held free → IsParting g w p
+-- one free node more may be held, or the set is parted, and what the search has reached is a side: whatever the root is, where the free nodes are those that are not held
+abbrev pub IsGrowth : Network → (ℕ → Bool) → (ℕ → Bool) → Swept → Growth → Type 0
+IsGrowth g w free s (More u) = (u < g.nodes) × (free u ≡ true) × ((root : ℕ) (held : ℕ → Bool) → IsHeld g w root held → IsRest w held free → IsHeld g w root (with_one held u))
+IsGrowth g w free s (Parted c d) = (root : ℕ) (held : ℕ → Bool) → IsHeld g w root held → IsRest w held free → IsParting g w (record { side = s.order; first = c; second = d })

@@ -1,4 +1,4 @@
 pub mod Parting
 pub mod Held
-pub mod Trees
+pub mod WaysUp
 pub mod Answers

@@ -1,10 +1,7 @@
 -- Two nodes that part a set.
-use Rattle.std.specs.Prelude.{ℕ, ◌≡◌, ◌+◌, ◌<◌, ◌≤◌, Bool, false, List, [], ◌∷◌, length, IsTrue}
+use Rattle.std.specs.Prelude.{ℕ, ◌≡◌, ◌<◌, ◌≤◌, Bool, false, IsTrue}
 use Rattle.tomo_base.specs.Network.{Network}
 use Rattle.tomo_base.specs.Sets.{has}
-use Rattle.tomo_base.specs.Walks.{IsConnectedIn}
-use Rattle.tomo_base.specs.Search.{mark_of, entry_at, IsSweep}
-use Rattle.tomo_base.specs.declared.search.Swept.{Swept}
 use Rattle.tomo_base.specs.Parting.{without_two, IsClosedIn}
 use Rattle.three_conn.specs.declared.known.Parting.{Parting}
 
@@ -20,11 +17,3 @@ pub record IsParting (g : Network) (w : ℕ → Bool) (p : Parting) : Type 0 whe
   pub parted : IsParted g w (has p.side.items) p.first p.second
   pub first_most : p.first ≤ g.nodes
   pub second_most : p.second ≤ g.nodes
-
--- the root and a node at the end of a search from it do not part the set
-pub record IsWholeAcross (g : Network) (nodes : List Bool) (root : ℕ) : Type 0 where
-  pub found : Swept
-  pub search : IsSweep g nodes (root ∷ []) found
-  pub place : ℕ
-  pub last : place + 1 ≡ length found.order.items
-  pub whole : IsConnectedIn g (without_two (mark_of nodes) root (entry_at found.order.items place))

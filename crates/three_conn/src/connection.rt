@@ -1,10 +1,11 @@
 // Whether a graph is three-connected.
 ghost use Rattle.std.specs.Prelude.{◌≡◌, ◌<◌, ◌≤◌, ◌||◌, ◌==◌, ℕ, All, length, IfOk};
 ghost use Rattle.std.specs.List.Sorted.{IsStrictlyIncreasing};
+ghost use Rattle.tomo_base.specs.Limits.{graph_node_limit};
 ghost use Rattle.tomo_base.specs.Sets.{has};
 ghost use Rattle.three_conn.specs.Answers.{IsConn};
 
-use crate::probing::seek;
+use crate::probing::{other, seek};
 use std::alloc::Global;
 use tomo_base::{Graph, NoMemory, NodeSet};
 
@@ -24,8 +25,9 @@ const FEWEST: u32 = 4;
 
 /// Tells whether a graph is three-connected: `Few` exactly where it has fewer than four nodes, `Yes` exactly where it is, and else `Cut`
 /// with at most two nodes without which it is not connected. A way of its own: nodes that no two others part from a node with the most
-/// neighbours are gathered one by one, each where three ways lead to those gathered; then each node is tried together with that node. At
-/// most three searches a node, each linear in nodes and links.
+/// neighbours are gathered one by one, each where three ways lead to those gathered; so again from a second node; and the two are tried
+/// together. At most two short searches for each node and each of the two, which stop at the third gathered node: on networks that are no
+/// narrow strips these look at each link a few times in all.
 pub fn three_connected(alloc: Global, g: &Graph) -> Result<Conn, NoMemory>
     ensures { IfOk result (IsConn g.now) }
 {
@@ -34,8 +36,9 @@ pub fn three_connected(alloc: Global, g: &Graph) -> Result<Conn, NoMemory>
         return Ok(Conn::Few);
     }
     let nodes = vec![in alloc; true; n as usize]?;
-    let root = busiest(g);
-    match seek(alloc, g, &nodes, root)? {
+    let first = busiest(g);
+    let second = other(g, &nodes, first);
+    match seek(alloc, g, &nodes, first, second)? {
         None => Ok(Conn::Yes),
         Some(parting) => Ok(Conn::Cut(pair(alloc, n, parting.first, parting.second)?)),
     }
@@ -43,7 +46,7 @@ pub fn three_connected(alloc: Global, g: &Graph) -> Result<Conn, NoMemory>
 
 // The set of two numbers, as far as they are below n.
 fn pair(alloc: Global, n: u32, c: u32, d: u32) -> Result<NodeSet, NoMemory>
-    requires few { n ≤ 10000 }
+    requires few { n ≤ graph_node_limit }
     ensures size { IfOk result (λ s. length s ≤ 2) }
     ensures below { IfOk result (λ s. All (λ v. v < n) s) }
     ensures ascending { IfOk result IsStrictlyIncreasing }

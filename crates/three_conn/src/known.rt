@@ -27,8 +27,8 @@ pub struct Parting {
 pub enum Growth {
     // One node more may be held.
     More(u32),
-    // Two nodes part the set.
-    Parted(Parting),
+    // These two part the set, and what the search has reached is a side.
+    Parted(u32, u32),
 }
 
 // What is known at the beginning: the root and its neighbours are held.

@@ -2,7 +2,6 @@
 #![tactic(auto)]
 
 mod connection;
-mod gates;
 mod growing;
 mod known;
 mod marks;

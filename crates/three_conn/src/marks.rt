@@ -1,5 +1,6 @@
 // Marks on nodes.
 ghost use Rattle.std.specs.Prelude.{◌≡◌, ◌<◌, ◌≤◌, ◌&&◌, ℕ, Bool, true, false, not, length, IfOk, IfSome, IfNone};
+ghost use Rattle.tomo_base.specs.Limits.{graph_node_limit};
 ghost use Rattle.tomo_base.specs.Search.{mark_of, entry_at};
 ghost use Rattle.three_conn.specs.Held.{IsRest};
 ghost use Rattle.tomo_base.specs.Parting.{without_two};
@@ -37,7 +38,7 @@ pub fn all_but(alloc: Global, nodes: &[bool], c: u32, d: u32) -> Result<Vec<bool
 
 // The first node with a mark, from a node on.
 pub fn first_marked(marks: &[bool]) -> Option<u32>
-    requires { length marks.now ≤ 10000 }
+    requires { length marks.now ≤ graph_node_limit }
     ensures found { IfSome result (λ v. (v < length marks.now) × (mark_of marks.now v ≡ true)) }
     ensures none { IfNone result ((v : ℕ) → mark_of marks.now v ≡ false) }
 {
@@ -51,7 +52,7 @@ pub fn first_marked(marks: &[bool]) -> Option<u32>
 
 // The first free node that a search has not reached.
 pub fn first_missed(free: &[bool], rank: &[u32]) -> Option<u32>
-    requires few { length free.now ≤ 10000 }
+    requires few { length free.now ≤ graph_node_limit }
     requires ranks { length rank.now ≡ length free.now }
     ensures found { IfSome result (λ v. (v < length free.now) × (mark_of free.now v ≡ true) × (length free.now ≤ entry_at rank.now v)) }
     ensures none { IfNone result ((v : ℕ) → mark_of free.now v ≡ true → entry_at rank.now v < length free.now) }

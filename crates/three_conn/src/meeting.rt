@@ -1,5 +1,6 @@
 // Where two ways up in the tree of a search meet.
-ghost use Rattle.three_conn.specs.Trees.{IsTree, IsRanked, IsWayUp};
+ghost use Rattle.gate_search.specs.Trees.{IsTree, IsRanked};
+ghost use Rattle.three_conn.specs.WaysUp.{IsWayUp};
 
 use tomo_base::Swept;
 

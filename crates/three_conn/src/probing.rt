@@ -1,11 +1,11 @@
 // Looking for two nodes that part a set.
-ghost use Rattle.std.specs.Prelude.{◌≡◌, ◌<◌, ◌≤◌, true, length, IfOk, IfSome, IfNone};
+ghost use Rattle.std.specs.Prelude.{◌≡◌, ◌≢◌, ◌<◌, ◌≤◌, true, length, IfOk, IfSome, IfNone};
 ghost use Rattle.tomo_base.specs.Sets.{has, size};
 ghost use Rattle.tomo_base.specs.Walks.{IsConnectedIn};
 ghost use Rattle.tomo_base.specs.Search.{mark_of};
 ghost use Rattle.tomo_base.specs.Parting.{without_two, IsThreeConnectedIn};
-ghost use Rattle.three_conn.specs.Parting.{IsParted, IsParting, IsWholeAcross};
-ghost use Rattle.three_conn.specs.Held.{IsCheckedTo};
+ghost use Rattle.three_conn.specs.Parting.{IsParted, IsParting};
+ghost use Rattle.three_conn.specs.Held.{IsWholeBeside};
 
 use crate::growing::grow;
 use crate::known::{Parting, begin};
@@ -66,61 +66,85 @@ fn parting_at(
     }
 }
 
-// Looks for a node that parts the set together with the root.
-fn check(alloc: Global, g: &Graph, nodes: &[bool], root: u32) -> Result<Option<Parting>, NoMemory>
+// Looks for two nodes other than the root that part the set: lets the nodes that are held from the root grow.
+fn beside(alloc: Global, g: &Graph, nodes: &[bool], root: u32) -> Result<Option<Parting>, NoMemory>
     requires marks { length nodes.now ≡ g.now.nodes }
-    requires root { root < g.now.nodes }
-    ensures all { IfOk result (λ o. IfNone o (IsCheckedTo g.now (mark_of nodes.now) root g.now.nodes)) }
+    requires root { mark_of nodes.now root ≡ true }
+    ensures whole { IfOk result (λ o. IfNone o (IsWholeBeside g.now (mark_of nodes.now) root)) }
     ensures parting { IfOk result (λ o. IfSome o (IsParting g.now (mark_of nodes.now))) }
 {
-    for v in 0..g.nodes() {
-        if nodes[v as usize] && v != root {
-            if let Some(parting) = parting_at(alloc, g, nodes, root, v)? {
-                return Ok(Some(parting));
-            }
-        }
-    }
-    Ok(None)
+    let mut known = begin(alloc, g, nodes, root)?;
+    grow(alloc, g, nodes, &mut known)
 }
 
-// Looks for two nodes that part a set of at least four nodes: lets the held nodes grow, and where all are held tries each with the root.
+// Looks for two nodes that part a set of at least four nodes: two of its nodes are tried together, and each is taken for a root, beside
+// which two others might part the set.
 pub fn seek(
     alloc: Global,
     g: &Graph,
     nodes: &[bool],
-    root: u32,
+    first: u32,
+    second: u32,
 ) -> Result<Option<Parting>, NoMemory>
     requires marks { length nodes.now ≡ g.now.nodes }
     requires four { 4 ≤ size g.now (mark_of nodes.now) }
-    requires root { mark_of nodes.now root ≡ true }
+    requires first { mark_of nodes.now first ≡ true }
+    requires second { mark_of nodes.now second ≡ true }
+    requires differ { first ≢ second }
     ensures whole { IfOk result (λ o. IfNone o (IsThreeConnectedIn g.now (mark_of nodes.now))) }
     ensures parting { IfOk result (λ o. IfSome o (IsParting g.now (mark_of nodes.now))) }
 {
     let _count = g.nodes();
-    let mut known = begin(alloc, g, nodes, root)?;
-    match grow(alloc, g, nodes, &mut known)? {
+    if let Some(parting) = parting_at(alloc, g, nodes, first, second)? {
+        return Ok(Some(parting));
+    }
+    if let Some(parting) = beside(alloc, g, nodes, first)? {
+        return Ok(Some(parting));
+    }
+    match beside(alloc, g, nodes, second)? {
         Some(parting) => Ok(Some(parting)),
-        None => check(alloc, g, nodes, root),
+        None => Ok(None),
     }
 }
 
-// Tries the root with the last node that a search from it reaches.
-fn halve(alloc: Global, g: &Graph, nodes: &[bool], root: u32) -> Result<Option<Parting>, NoMemory>
+// The first node of the set other than the root.
+pub fn other(g: &Graph, nodes: &[bool], root: u32) -> u32
     requires marks { length nodes.now ≡ g.now.nodes }
-    requires root { mark_of nodes.now root ≡ true }
-    requires node { root < g.now.nodes }
-    ensures none { IfOk result (λ o. IfNone o (IsWholeAcross g.now nodes.now root)) }
-    ensures parting { IfOk result (λ o. IfSome o (IsParting g.now (mark_of nodes.now))) }
+    requires two { 2 ≤ size g.now (mark_of nodes.now) }
+    ensures node { mark_of nodes.now result ≡ true }
+    ensures other { root ≢ result }
 {
-    let _count = g.nodes();
+    for v in 0..g.nodes() {
+        if nodes[v as usize] && v != root {
+            return v;
+        }
+    }
+    unreachable!()
+}
+
+// A node of the set that is farthest from the root; any other where no walk in the set leads from the root to another.
+fn farthest(alloc: Global, g: &Graph, nodes: &[bool], root: u32) -> Result<u32, NoMemory>
+    requires marks { length nodes.now ≡ g.now.nodes }
+    requires two { 2 ≤ size g.now (mark_of nodes.now) }
+    requires root { mark_of nodes.now root ≡ true }
+    ensures node { IfOk result (λ v. mark_of nodes.now v ≡ true) }
+    ensures other { IfOk result (λ v. root ≢ v) }
+{
     let found = sweep(alloc, g, nodes, &[root])?;
     let last = found.order[found.order.len() - 1];
-    parting_at(alloc, g, nodes, root, last)
+    if last == root {
+        Ok(other(g, nodes, root))
+    } else {
+        Ok(last)
+    }
 }
 
 /// Looks for two nodes that part a set of at least four nodes of a graph; what links lead out of the set is not looked at. The root, a node
 /// of the set, is first tried with a node farthest from it, so that a ring is cut in half, and a split tree of rings is as deep as the
-/// logarithm of their nodes. At most three searches a node, each linear in nodes and links.
+/// logarithm of their nodes. Then no two nodes part the set if none part it beside the root, and none beside that other node: from each of
+/// the two, nodes are gathered that no two others part from it, each by a search that stops at the third gathered node that it meets. Two
+/// searches linear in nodes and links, and at most two short ones for each node: on networks that are no narrow strips, these look at each
+/// link a few times in all.
 pub fn probe(
     alloc: Global,
     g: &Graph,
@@ -133,8 +157,6 @@ pub fn probe(
     ensures whole { IfOk result (λ o. IfNone o (IsThreeConnectedIn g.now (mark_of nodes.now))) }
     ensures parting { IfOk result (λ o. IfSome o (IsParting g.now (mark_of nodes.now))) }
 {
-    match halve(alloc, g, nodes, root)? {
-        Some(parting) => Ok(Some(parting)),
-        None => seek(alloc, g, nodes, root),
-    }
+    let last = farthest(alloc, g, nodes, root)?;
+    seek(alloc, g, nodes, root, last)
 }

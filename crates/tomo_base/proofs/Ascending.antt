@@ -1,5 +1,5 @@
 -- What an ascending list of nodes keeps when a node is put into it, and that a set has one such list.
-use Rattle.std.proofs.Common.{◌≡◌, ℕ, zero, suc, ◌+◌, ◌<◌, ◌≤◌, Bool, true, false, ◌||◌, ◌&&◌, ◌==◌, nat_lt, List, [], ◌∷◌, ◌++◌, length, get_or, take, drop, lt-ltb, ne_eqb, All, refl, sym, ap, ap₂, ◌∙◌, subst, inl, inr, arith, Result, Ok, Err, is_ok}
+use Rattle.std.proofs.Common.{◌≡◌, ℕ, zero, suc, ◌+◌, ◌<◌, ◌≤◌, Bool, true, false, ◌||◌, ◌==◌, List, [], ◌∷◌, ◌++◌, length, get_or, take, drop, ne_eqb, All, refl, sym, ap, ap₂, ◌∙◌, subst, inl, inr, arith, Result, Ok, Err, is_ok}
 use Rattle.std.specs.List.{insert}
 use Rattle.std.specs.List.Sorted.{IsStrictlyIncreasing, IsBinarySearchResult}
 use Rattle.std.specs.Ordering.{nat_cmp}
@@ -8,15 +8,15 @@ use Rattle.std.proofs.lemmas.List.Edits.{length-insert, get_or-insert_below, get
 use Rattle.std.proofs.lemmas.List.Kept.{AllPairs-from_increasing}
 use Rattle.std.proofs.lemmas.List.Sorted.{searched}
 use Rattle.std.proofs.lemmas.List.{take-append-drop, take_more, length_push, get_or_append_left, get_or_push, append-nil}
-use Rattle.std.proofs.lemmas.Bool.Decides.{nat_tests}
+use Rattle.tomo_base.specs.Limits.{graph_node_limit}
 use Rattle.tomo_base.specs.Sets.{has, members}
-use Rattle.tomo_base.specs.NodeLists.{node_limit, IsNodeSet}
+use Rattle.tomo_base.specs.NodeLists.{IsNodeSet}
 use Rattle.tomo_base.proofs.Counts.{count-le}
 use Rattle.tomo_base.proofs.Members.{members_below, count-has, has-append, first_least, increasing-tail, first_once}
 
 -- a set of nodes has at most as many as a graph may have
-pub length-node_set : (xs : List ℕ) → IsNodeSet xs → length xs ≤ node_limit
-length-node_set xs is = omega (arith, count-has node_limit xs is.ascending is.below, count-le node_limit (has xs))
+pub length-node_set : (xs : List ℕ) → IsNodeSet xs → length xs ≤ graph_node_limit
+length-node_set xs is = omega (arith, count-has graph_node_limit xs is.ascending is.below, count-le graph_node_limit (has xs))
 
 -- the numbers of an ascending list do not fall
 pub never_falls : (xs : List ℕ) → IsStrictlyIncreasing xs → (i j : ℕ) → i ≤ j → j < length xs → get_or xs i 0 ≤ get_or xs j 0
@@ -102,11 +102,11 @@ has-insert xs i v w =
     regroup a b c = grind arith
 
 -- all its nodes are below the limit
-insert_below : (xs : List ℕ) (i v : ℕ) → v < node_limit → All (λ x. x < node_limit) xs → All (λ x. x < node_limit) (insert xs i v)
-insert_below xs i v lt all = All-from_has (λ x. x < node_limit) (insert xs i v) (λ w h.
+insert_below : (xs : List ℕ) (i v : ℕ) → v < graph_node_limit → All (λ x. x < graph_node_limit) xs → All (λ x. x < graph_node_limit) (insert xs i v)
+insert_below xs i v lt all = All-from_has (λ x. x < graph_node_limit) (insert xs i v) (λ w h.
     elim (or_cases (v == w) (has xs w) (sym (has-insert xs i v w) ∙ h)) [
       | inl e ↦ (let same : v ≡ w = eqb-true v w e in omega (arith, same, lt))
-      | inr e ↦ All-has (λ x. x < node_limit) xs all w e
+      | inr e ↦ All-has (λ x. x < graph_node_limit) xs all w e
     ])
 
 -- where a search for a node ends without finding it, the node belongs
@@ -134,7 +134,7 @@ has_already xs v h w = elim (cases_Bool (v == w)) [
 ]
 
 -- the list with the node put where it belongs is the ascending list of the set with it
-pub insert_node : (xs : List ℕ) (i v : ℕ) → IsNodeSet xs → BelongsAt xs i v → v < node_limit → IsNodeSet (insert xs i v)
+pub insert_node : (xs : List ℕ) (i v : ℕ) → IsNodeSet xs → BelongsAt xs i v → v < graph_node_limit → IsNodeSet (insert xs i v)
 insert_node xs i v is b lt = record { ascending = insert_ascends xs i v is.ascending b; below = insert_below xs i v lt is.below }
 
 -- two ascending lists with the same numbers are equal
@@ -171,33 +171,6 @@ has-more all old xs i d v w l same before =
   where
     regroup : (a b c : Bool) → (a || (b || c)) ≡ (b || (c || (a || false)))
     regroup a b c = grind arith
-
--- a number other than v is below v just where it is below the next
-same_below : (v w : ℕ) → (v ≡ w → ⊥) → nat_lt w v ≡ nat_lt w (v + 1)
-same_below v w ne = grind (arith, nat_tests)
-
--- a set with the first of the numbers from v on that pass
-pub below-more : (found p : ℕ → Bool) (v w : ℕ) → found w ≡ (nat_lt w v && p w) → p v ≡ true → ((v == w) || found w) ≡ (nat_lt w (v + 1) && p w)
-below-more found p v w before passes = rw before (elim (cases_eq v w) [
-  | inl same ↦ rw (eq-eqb v w same, lt-ltb w (v + 1) (omega (arith, same)), ap p (sym same), passes) refl
-  | inr ne ↦ rw (ne_eqb v w ne) (ap (λ b. b && p w) (same_below v w ne))
-])
-
--- a set without the first of them, which does not pass
-pub below-less : (found p : ℕ → Bool) (v w : ℕ) → found w ≡ (nat_lt w v && p w) → p v ≡ false → found w ≡ (nat_lt w (v + 1) && p w)
-below-less found p v w before fails = rw before (elim (cases_eq v w) [
-  | inl same ↦ rw (ap p (sym same), fails) (grind arith)
-  | inr ne ↦ ap (λ b. b && p w) (same_below v w ne)
-])
-
--- a set without nodes, and the numbers below 0
-pub below-none : (p : ℕ → Bool) (w : ℕ) → has [] w ≡ (nat_lt w 0 && p w)
-unfolding has
-below-none p w = grind (arith, nat_tests)
-
--- a test that no number from n on passes is found whole below n
-pub below-all : (p : ℕ → Bool) (n w : ℕ) → (n ≤ w → p w ≡ false) → (nat_lt w n && p w) ≡ p w
-below-all p n w out = elim (cases_lt w n) [ inl lt ↦ rw (lt-ltb w n lt) refl | inr ge ↦ rw (out ge) (grind arith) ]
 
 -- an ascending list goes on ascending with a number above all of it
 pub increasing_push : (xs : List ℕ) (x : ℕ) → IsStrictlyIncreasing xs → ((v : ℕ) → has xs v ≡ true → v < x) → IsStrictlyIncreasing (xs ++ x ∷ [])

@@ -1,5 +1,5 @@
 -- What entering a link in the rows of its two ends does to them, and the first fault of a list of links.
-use Rattle.std.proofs.Common.{◌≡◌, ◌≢◌, ℕ, zero, suc, ◌+◌, ◌<◌, ◌≤◌, ◌⊎◌, true, false, ◌||◌, nat_lt, List, [], ◌∷◌, ◌++◌, map, length, get_or, set, take, drop, slice_get, Some, None, Option, is_some, IfSome, IfNone, All, Contains, Vec, refl, sym, ap, ◌∙◌, inl, inr, arith, ap₂, length-append, length-set, take_at, get_or-set_same, get_or-set_other}
+use Rattle.std.proofs.Common.{◌≡◌, ◌≢◌, ℕ, ◌+◌, ◌<◌, ◌≤◌, ◌⊎◌, true, false, ◌||◌, nat_lt, List, [], ◌∷◌, ◌++◌, map, length, get_or, set, take, Some, None, Option, is_some, IfSome, IfNone, All, Contains, Vec, refl, sym, ap, ◌∙◌, inl, inr, arith, ap₂, length-append, length-set, get_or-set_same, get_or-set_other}
 use Rattle.std.specs.Global.{Global}
 use Rattle.std.proofs.lemmas.Bool.{cases_Bool, cases_eq, cases_order, false≢true, true≢false, ltb-true, ltb-false}
 use Rattle.std.proofs.lemmas.Bool.Decides.{nat_tests}
@@ -7,9 +7,10 @@ use Rattle.std.proofs.lemmas.List.{length-map, length-take-le, map_more, get_or_
 use Rattle.tomo_base.specs.declared.graph.Link.{Link}
 use Rattle.tomo_base.specs.declared.graph.Hop.{Hop}
 use Rattle.tomo_base.specs.Network.{joins, any_joins, AreLinks}
-use Rattle.tomo_base.specs.Table.{JoinsAt, AreHops, AreRows, in_order, IsFirst}
+use Rattle.tomo_base.specs.Table.{JoinsAt, AreHops, AreRows, in_order, FollowsFine}
 use Rattle.tomo_base.proofs.Links.{any_joins_comm}
 use Rattle.tomo_base.proofs.Rows.{AreHops-push, AreHops-nil, any_joins-from, AreHops_gives, no_link}
+use Rattle.std.proofs.lemmas.Option.{slice_get-get_or}
 
 -- a link joins its ends
 pub joins_its_ends : (l : Link) → joins l l.a l.b ≡ true
@@ -53,12 +54,6 @@ rows_push rows r empty are v d l = elim (cases_order v (length rows)) [
 
 -- ---- the first fault
 
--- what stands at a place within the list
-pub slice_get-get_or : {X : Type 0} (xs : List X) (i : ℕ) (d : X) → i < length xs → slice_get xs i ≡ Some (get_or xs i d)
-slice_get-get_or [] i d l = absurd (omega arith)
-slice_get-get_or (x ∷ xs) zero d l = refl
-slice_get-get_or (x ∷ xs) (suc i) d l = slice_get-get_or xs i d (omega arith)
-
 -- the higher end, above n
 pub in_order_high : (n : ℕ) (l : Link) → n ≤ (in_order l).b → (n ≤ l.a) ⊎ (n ≤ l.b)
 in_order_high n l h = elim (cases_Bool (nat_lt l.b l.a))
@@ -81,7 +76,7 @@ any_joins-in_order [] a b = refl
 any_joins-in_order (l ∷ ls) a b = ap₂ ◌||◌ (joins-in_order l a b) (any_joins-in_order ls a b)
 
 -- the places before i are fine, and the link at i is l
-pub first_at : (n : ℕ) (links kept : List Link) (i : ℕ) (d : Link) → i < length links → kept ≡ map in_order (take i links) → AreLinks n kept → IsFirst n links i (get_or links i d)
+pub first_at : (n : ℕ) (links kept : List Link) (i : ℕ) (d : Link) → i < length links → kept ≡ map in_order (take i links) → AreLinks n kept → FollowsFine n links i (get_or links i d)
 first_at n links kept i d l same are = record { fine = rw (sym same) are; there = slice_get-get_or links i d l }
 
 -- a link that stands already, and the given one that it repeats
@@ -134,7 +129,3 @@ no_link_yet links v w hops (Some i) are none missing = absurd (true≢false miss
 -- as many links are kept as were read
 pub length-kept : (links kept : List Link) (i : ℕ) → i ≤ length links → kept ≡ map in_order (take i links) → length kept ≡ i
 length-kept links kept i le same = ap length same ∙ (length-map (take i links) in_order ∙ length-take-le i links le)
-
--- the items of a `Vec` after its slice was lent
-pub lent_back : {X : Type 0} (n : ℕ) (new old : List X) → length new ≡ n → take n (new ++ drop (length new) old) ≡ new
-lent_back n new old same = take_at new (drop (length new) old) n same

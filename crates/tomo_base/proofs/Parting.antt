@@ -1,6 +1,6 @@
 -- Sets without one or two of their nodes; closed sets, and what no closed set parts.
-use Rattle.std.proofs.Common.{◌≡◌, ◌≢◌, ℕ, Bool, true, false, not, ◌&&◌, ◌||◌, ◌==◌, ◌⊎◌, IsTrue, refl, ap, sym, subst, inl, inr}
-use Rattle.std.proofs.lemmas.Bool.{cases_Bool, both_ways, and_parts, and_from, and_right, not-true, eqb-true, eq-eqb, ne_eqb, or_cases, or_left, or_right}
+use Rattle.std.proofs.Common.{◌≡◌, ◌≢◌, ℕ, Bool, true, false, not, ◌&&◌, ◌==◌, IsTrue, ap, sym, subst, inl, inr}
+use Rattle.std.proofs.lemmas.Bool.{cases_Bool, both_ways, and_parts, and_from, not-true, eq-eqb, ne_eqb}
 use Rattle.tomo_base.specs.Network.{Network, linked}
 use Rattle.tomo_base.specs.Sets.{without, minus, Within}
 use Rattle.tomo_base.specs.Parting.{without_two, IsClosedIn, AreJoinedIn, IsJoinedIn, IsJoinedWithoutOne}

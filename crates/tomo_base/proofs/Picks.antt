@@ -1,8 +1,8 @@
 -- From the size of a set to one, two, three or four different nodes of it, and back.
-use Rattle.std.proofs.Common.{◌≡◌, ◌≢◌, ℕ, zero, suc, ◌+◌, ◌≤◌, ◌<◌, Bool, true, false, not, ◌&&◌, ◌==◌, ◌⊎◌, IsTrue, refl, sym, ap, inl, inr, arith}
-use Rattle.std.proofs.lemmas.Bool.{cases_Bool, both_ways, and_right, eq-eqb, cases_eq}
+use Rattle.std.proofs.Common.{◌≡◌, ◌≢◌, ℕ, zero, suc, ◌+◌, ◌≤◌, ◌<◌, Bool, true, false, not, ◌&&◌, ◌==◌, ◌⊎◌, IsTrue, refl, ap, inl, inr, arith}
+use Rattle.std.proofs.lemmas.Bool.{cases_Bool, and_right, eq-eqb, cases_eq}
 use Rattle.tomo_base.specs.Sets.{one_if, count, without, minus, meet, Within}
-use Rattle.tomo_base.proofs.Counts.{find, one_if-mono, count-mono, count-add, count-less, count-none, count_gives}
+use Rattle.tomo_base.proofs.Counts.{one_if-mono, count-mono, count-add, count-less, count-none, count_gives, count-some}
 use Rattle.tomo_base.proofs.Parting.{without-from, without-parts}
 
 -- a larger set counts no less
@@ -55,13 +55,9 @@ pub pick3 : (n : ℕ) (X : ℕ → Bool) → 4 ≤ count n X → (a b c : ℕ) �
 pick3 n X h a b c = let r = pick2 n (without X a) (omega (arith, h, count-without n X a)) b c in
     let p = without-parts X a r.0 r.2 in (r.0, p.0, p.1, r.3, r.4)
 
--- a node makes a set count
-pub one-count : (n : ℕ) (X : ℕ → Bool) (u : ℕ) → u < n → IsTrue (X u) → 1 ≤ count n X
-one-count n X u l m = omega (arith, count-removed n X u l m)
-
 -- two different nodes make it count two
 pub two-count : (n : ℕ) (X : ℕ → Bool) (u v : ℕ) → u < n → v < n → IsTrue (X u) → IsTrue (X v) → (u ≢ v) → 2 ≤ count n X
-two-count n X u v lu lv mu mv uv = omega (arith, count-removed n X v lv mv, one-count n (without X v) u lu (without-from X v u mu uv))
+two-count n X u v lu lv mu mv uv = omega (arith, count-removed n X v lv mv, count-some n (without X v) u lu (without-from X v u mu uv))
 
 -- three different nodes make it count three
 pub three-count : (n : ℕ) (X : ℕ → Bool) (u v w : ℕ) → u < n → v < n → w < n → IsTrue (X u) → IsTrue (X v) → IsTrue (X w)

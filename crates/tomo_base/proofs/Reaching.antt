@@ -1,11 +1,11 @@
 -- The nodes to which walks in a set lead from a node are a closed set; so what no closed set parts is joined by a walk, and the other way round.
-use Rattle.std.proofs.Common.{◌≡◌, ◌≢◌, ℕ, zero, suc, ◌+◌, ◌≤◌, ◌<◌, nat_lt, Bool, true, false, not, ◌&&◌, ◌||◌, ◌==◌, ◌⊎◌, List, [], ◌∷◌, IsTrue, refl, sym, ap, subst, inl, inr, arith, lt-ltb, le-ltb}
+use Rattle.std.proofs.Common.{◌≡◌, ℕ, zero, suc, ◌+◌, ◌<◌, nat_lt, Bool, true, false, not, ◌&&◌, ◌==◌, ◌⊎◌, [], IsTrue, refl, sym, ap, subst, inl, inr, arith, lt-ltb, le-ltb}
 use Rattle.std.proofs.lemmas.Bool.{cases_Bool, both_ways, and_parts, and_from, and_right, not-true, eqb-true, eq-eqb, or_cases, or_left, or_right, cases_eq, cases_lt}
 use Rattle.tomo_base.specs.Network.{Network, linked, IsGraph}
 use Rattle.tomo_base.specs.Sets.{count, minus, meet, Within}
-use Rattle.tomo_base.specs.Walks.{StepsFrom, AllIn, end_of, Reaches, IsConnectedIn}
-use Rattle.tomo_base.proofs.Counts.{find, count-less, count-le}
-use Rattle.tomo_base.proofs.Links.{linked_below, linked_comm}
+use Rattle.tomo_base.specs.Walks.{Reaches, IsConnectedIn}
+use Rattle.tomo_base.proofs.Counts.{find, count-less}
+use Rattle.tomo_base.proofs.Links.{linked_below}
 use Rattle.tomo_base.proofs.Walks.{Reaches-step, stays_in}
 use Rattle.tomo_base.specs.Parting.{with_one, IsClosedIn, AreJoinedIn, IsJoinedIn}
 use Rattle.tomo_base.proofs.Parting.{joined-trans, joined-step, minus-in, minus-out, joined-at}

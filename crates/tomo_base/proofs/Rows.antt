@@ -4,16 +4,17 @@ use Rattle.std.specs.List.{AllWithin}
 use Rattle.std.proofs.lemmas.Bool.{cases_Bool, cases_order, cases_eq, or_cases, or_left, or_right, false≢true, both_ways, or_parts, or_from}
 use Rattle.std.proofs.lemmas.Bool.Decides.{nat_tests}
 use Rattle.std.proofs.lemmas.List.Elements.{All-contains, All-append, All-take, All-drop, All-cons}
-use Rattle.std.proofs.lemmas.List.Kept.{AllPairs-cons}
 use Rattle.std.proofs.lemmas.List.{get_or_default}
 use Rattle.std.proofs.lemmas.List.Edits.{length-insert, get_or-insert_at}
 use Rattle.std.proofs.lemmas.Grind.{in_insert}
 use Rattle.std.specs.List.Sorted.{IsNonDecreasingBy}
-use Rattle.tomo_base.proofs.Links.{joins_gives, joins_comm, any_joins_comm}
+use Rattle.tomo_base.proofs.Links.{joins_gives, joins_comm, any_joins_comm, linked_below}
 use Rattle.tomo_base.specs.declared.graph.Link.{Link}
 use Rattle.tomo_base.specs.declared.graph.Hop.{Hop}
-use Rattle.tomo_base.specs.Network.{joins, any_joins, AreLinks}
+use Rattle.tomo_base.specs.Network.{joins, any_joins, AreLinks, Network, linked, IsGraph}
 use Rattle.tomo_base.specs.Table.{JoinsAt, Ascend, AreHops}
+use Rattle.tomo_base.proofs.Lists.{AllPairs-insert, slice_get-append, slice_get_last, slice_get_push_cases}
+use Rattle.std.specs.Option.{is_some}
 
 -- a link between a and b has a number
 pub any_joins_gives : (ls : List Link) (a b : ℕ) → any_joins ls a b ≡ true → (i : ℕ) × JoinsAt ls i a b
@@ -92,50 +93,36 @@ pub none_back : (links : List Link) (v w : ℕ) (o : Option ℕ) → IfNone o (a
 none_back links v w None h = any_joins_comm links w v ∙ h
 none_back links v w (Some i) h = h
 
--- ---- lists: an element put in, one more at the end
+-- ---- the hops of a node
 
--- the first with each later one
-pub AllPairs-head : {X : Type 0} (R : X → X → Type 0) (x : X) (xs : List X) → AllPairs R (x ∷ xs) → All (R x) xs
-AllPairs-head R x xs asc k d l = asc 0 (suc k) d (omega arith) (omega arith)
+-- a hop leads along a link
+pub hop_linked : (g : Network) (v : ℕ) (hops : List Hop) (k : ℕ) (e : Hop) → AreHops g.links v hops → k < length hops → linked g v (get_or hops k e).node ≡ true
+hop_linked g v hops k e are l = any_joins-from g.links (get_or hops k e).link v (get_or hops k e).node (are.sound k e l)
 
--- the later ones with each other
-pub AllPairs-tail : {X : Type 0} (R : X → X → Type 0) (x : X) (xs : List X) → AllPairs R (x ∷ xs) → AllPairs R xs
-AllPairs-tail R x xs asc i j d l m = asc (suc i) (suc j) d (omega arith) (omega arith)
+-- each link has its hop
+pub linked_hop : (g : Network) (v w : ℕ) (hops : List Hop) → AreHops g.links v hops → linked g v w ≡ true → (k : ℕ) × (k < length hops) × ((e : Hop) → (get_or hops k e).node ≡ w)
+linked_hop g v w hops are l =
+    let number = any_joins_gives g.links v w l in
+    let at = are.complete number.0 w number.1 in
+    (at.0, at.1, λ e. ap (λ (h : Hop). h.node) (get_or_default hops at.0 e (record { node = w; link = number.0 }) at.1 ∙ at.2))
 
--- a new item, after all before it and before all after it
-pub AllPairs-insert : {X : Type 0} (R : X → X → Type 0) (xs : List X) (p : ℕ) (y : X) → p ≤ length xs → AllPairs R xs → ((k : ℕ) (d : X) → k < p → R (get_or xs k d) y) → ((k : ℕ) (d : X) → p ≤ k → k < length xs → R y (get_or xs k d)) → AllPairs R (insert xs p y)
-AllPairs-insert R [] zero y le asc below above = AllPairs-cons R y [] (λ k d l. absurd (omega arith)) asc
-AllPairs-insert R [] (suc p) y le asc below above = absurd (omega arith)
-AllPairs-insert R (x ∷ xs) zero y le asc below above = AllPairs-cons R y (x ∷ xs) (λ k d l. above k d (omega arith) l) asc
-AllPairs-insert R (x ∷ xs) (suc p) y le asc below above =
-    let heads : All (R x) xs = AllPairs-head R x xs asc in
-    AllPairs-cons R x (insert xs p y)
-    (All-append (R x) (take p xs) (y ∷ drop p xs) (All-take (R x) p xs heads) (All-cons (R x) y (drop p xs) (below 0 x (omega arith)) (All-drop (R x) p xs heads)))
-    (AllPairs-insert R xs p y (omega arith) (AllPairs-tail R x xs asc) (λ k d l. below (suc k) d (omega arith)) (λ k d m l. above (suc k) d (omega arith) (omega arith)))
+-- hops lead to nodes
+pub hops_below : (g : Network) (v : ℕ) (hops : List Hop) (n : ℕ) → IsGraph g → AreHops g.links v hops → n ≡ g.nodes → All (λ h. h.node < n) hops
+hops_below g v hops n graph are same k d l =
+    let ends = linked_below g.nodes g.links v (get_or hops k d).node graph (any_joins-from g.links (get_or hops k d).link v (get_or hops k d).node (are.sound k d l)) in
+    omega (arith, ends.1, same)
 
--- a place in the first of two lists
-pub slice_get-append : {X : Type 0} (xs ys : List X) (i : ℕ) (x : X) → slice_get xs i ≡ Some x → slice_get (xs ++ ys) i ≡ Some x
-slice_get-append [] ys i x h = absurd (none x h)
-  where
-    none : {X : Type 0} (x : X) → None ≡ Some x → ⊥
-    none x e = cc
-slice_get-append (z ∷ xs) ys zero x h = h
-slice_get-append (z ∷ xs) ys (suc i) x h = slice_get-append xs ys i x h
+-- a link joins the two where its number is found
+pub is_some_linked : (g : Network) (a b : ℕ) (r : Option ℕ) → IfSome r (λ i. JoinsAt g.links i a b) → IfNone r (linked g a b ≡ false) → is_some r ≡ linked g a b
+is_some_linked g a b None found none = sym none
+is_some_linked g a b (Some i) found none = sym (any_joins-from g.links i a b found)
 
--- the place of the item that was pushed
-pub slice_get_last : {X : Type 0} (xs : List X) (x : X) → slice_get (xs ++ x ∷ []) (length xs) ≡ Some x
-slice_get_last [] x = refl
-slice_get_last (z ∷ xs) x = slice_get_last xs x
-
--- a place in a list with an item pushed
-pub slice_get_push_cases : {X : Type 0} (xs : List X) (x y : X) (i : ℕ) → slice_get (xs ++ x ∷ []) i ≡ Some y → (slice_get xs i ≡ Some y) ⊎ ((i ≡ length xs) × (x ≡ y))
-slice_get_push_cases [] x y zero h = inr (refl, cc h)
-slice_get_push_cases [] x y (suc i) h = absurd (none y h)
-  where
-    none : {X : Type 0} (x : X) → None ≡ Some x → ⊥
-    none x e = cc
-slice_get_push_cases (z ∷ xs) x y zero h = inl h
-slice_get_push_cases (z ∷ xs) x y (suc i) h = elim (slice_get_push_cases xs x y i h) [ inl e ↦ inl e | inr e ↦ inr (ap suc e.0, e.1) ]
+-- numbers that are no nodes are not linked
+pub not_linked : (g : Network) (a b : ℕ) → IsGraph g → (g.nodes ≤ a) ⊎ ((a < g.nodes) × (g.nodes ≤ b)) → linked g a b ≡ false
+not_linked g a b graph out = elim (cases_Bool (linked g a b)) [
+  | inl joined ↦ let below = linked_below g.nodes g.links a b graph joined in elim out [ inl l ↦ absurd (omega (arith, l, below.0)) | inr l ↦ absurd (omega (arith, l.1, below.1)) ]
+  | inr none ↦ none
+]
 
 -- ---- one more link
 
@@ -200,7 +187,7 @@ AreHops-nil v = record { ascending = λ i j d l m. absurd (omega arith); sound =
     none x e = cc
 
 -- the ends may be exchanged
-joins-swap : (k l : Link) → joins k l.a l.b ≡ joins l k.a k.b
+pub joins-swap : (k l : Link) → joins k l.a l.b ≡ joins l k.a k.b
 unfolding joins
 joins-swap k l = grind (arith, nat_tests)
 

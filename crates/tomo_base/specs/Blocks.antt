@@ -1,5 +1,5 @@
 -- Cut vertices, blocks, and the three-blocks of a block: the parts of a graph that one node, and that two nodes, cannot part.
-use Rattle.std.specs.Prelude.{ℕ, ◌≡◌, ◌≢◌, ◌<◌, ◌≤◌, Bool, IsTrue}
+use Rattle.std.specs.Prelude.{ℕ, ◌≢◌, ◌<◌, ◌≤◌, Bool, IsTrue}
 use Rattle.tomo_base.specs.Network.{Network}
 use Rattle.tomo_base.specs.Sets.{size, without, IsInside}
 use Rattle.tomo_base.specs.Parting.{without_two}

@@ -1,5 +1,6 @@
 -- Sums along paths, monitor paths, assignments, and what it means that paths or monitors identify every link.
-use Rattle.std.specs.Prelude.{ℕ, ◌≡◌, ◌+◌, ◌^◌, ◌≤◌, Bool, cond, List, [], ◌∷◌, length, All}
+use Rattle.std.specs.Prelude.{ℕ, ◌≡◌, ◌+◌, ◌≤◌, Bool, cond, List, [], ◌∷◌, length, All}
+use Rattle.tomo_base.specs.Limits.{delay_limit}
 use Rattle.tomo_base.specs.declared.graph.Link.{Link}
 use Rattle.tomo_base.specs.Network.{Network, joins}
 use Rattle.tomo_base.specs.Walks.{IsWalk, EndsIn, NoneTwice}
@@ -30,10 +31,6 @@ pub record IsMonitorPath (g : Network) (m : ℕ → Bool) (path : List ℕ) : Ty
   pub different : NoneTwice path
   pub linked : IsWalk g path
   pub ends : EndsIn m path
-
--- the largest delay that an assignment may give to a link
-abbrev pub delay_limit : ℕ
-delay_limit = 10 ^ 12
 
 -- one whole number from 0 to the limit for each link
 pub record IsAssignment (g : Network) (d : List ℕ) : Type 0 where

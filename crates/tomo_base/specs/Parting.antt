@@ -1,5 +1,5 @@
 -- Closed sets of nodes, which no link leaves inside a set; nodes that no closed set parts; and sets that stay joined without one or two of their nodes.
-use Rattle.std.specs.Prelude.{ℕ, ◌≡◌, ◌≤◌, Bool, ◌||◌, ◌==◌, IsTrue}
+use Rattle.std.specs.Prelude.{ℕ, ◌≤◌, Bool, ◌||◌, ◌==◌, IsTrue}
 use Rattle.tomo_base.specs.Network.{Network, linked}
 use Rattle.tomo_base.specs.Sets.{size, minus, without}
 use Rattle.tomo_base.specs.Walks.{IsConnectedIn}

@@ -1,5 +1,6 @@
 -- Lists of node sets: all sets with a property, in lexicographic order.
-use Rattle.std.specs.Prelude.{ℕ, ◌<◌, Bool, List, All, Contains}
+use Rattle.std.specs.Prelude.{ℕ, ◌<◌, Bool, List, map, All, Contains, Vec}
+use Rattle.std.specs.Global.{Global}
 use Rattle.std.specs.declared.cmp.Ordering.{Ordering}
 use Rattle.std.specs.Ordering.{nat_cmp}
 use Rattle.std.specs.Cmp.Lexicographic.{slice_cmp}
@@ -9,6 +10,10 @@ use Rattle.tomo_base.specs.Sets.{has, members}
 -- the lexicographic order: the first number that differs decides, and a proper prefix is less
 abbrev pub set_cmp : List ℕ → List ℕ → Ordering
 set_cmp = slice_cmp nat_cmp
+
+-- the lists that the vectors hold
+abbrev pub lists_of : List (Vec ℕ Global) → List (List ℕ)
+lists_of vs = map (λ (v : Vec ℕ Global). v.items) vs
 
 -- the nodes of a set below n, in ascending order
 pub record IsSetBelow (n : ℕ) (nodes : List ℕ) : Type 0 where

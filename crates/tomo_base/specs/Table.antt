@@ -1,6 +1,7 @@
 -- The table of neighbours that a graph keeps, and the first fault of a list of links.
 use Rattle.std.specs.Prelude.{ℕ, ◌≡◌, ◌≢◌, ◌<◌, ◌≤◌, ◌⊎◌, cond, nat_lt, List, map, take, IsTrue, All, AllPairs, Contains, length, slice_get, slice_index_or, Some, Vec}
 use Rattle.std.specs.Global.{Global}
+use Rattle.tomo_base.specs.Limits.{graph_link_limit, graph_node_limit}
 use Rattle.tomo_base.specs.declared.graph.Link.{Link}
 use Rattle.tomo_base.specs.declared.graph.Hop.{Hop}
 use Rattle.tomo_base.specs.declared.graph.GraphFault.{GraphFault}
@@ -35,20 +36,20 @@ RowsAscend rows = (v : ℕ) (d : Vec Hop Global) → v < length rows → Ascend 
 
 -- n nodes, these links, and the neighbours of each node
 pub record IsTable (n : ℕ) (links : List Link) (rows : List (Vec Hop Global)) : Type 0 where
-  pub few_nodes : n ≤ 10000
-  pub few_links : length links ≤ 20000
+  pub few_nodes : n ≤ graph_node_limit
+  pub few_links : length links ≤ graph_link_limit
   pub graph : AreLinks n links
   pub one_each : length rows ≡ n
   pub hops : AreRows links rows
 
 -- the links before place i are fine, and the link there is l
-pub record IsFirst (n : ℕ) (links : List Link) (i : ℕ) (l : Link) : Type 0 where
+pub record FollowsFine (n : ℕ) (links : List Link) (i : ℕ) (l : Link) : Type 0 where
   pub fine : AreLinks n (map in_order (take i links))
   pub there : slice_get links i ≡ Some l
 
 -- the first fault of a list of links
 abbrev pub IsFirstFault : ℕ → List Link → GraphFault → Type 0
 IsFirstFault n links NoMemory = Unit {0}
-IsFirstFault n links (Range i) = (l : Link) × IsFirst n links i l × ((n ≤ l.a) ⊎ (n ≤ l.b))
-IsFirstFault n links (Loop i) = (l : Link) × IsFirst n links i l × (l.a < n) × (l.a ≡ l.b)
-IsFirstFault n links (Repeat i) = (l : Link) × IsFirst n links i l × (l.a < n) × (l.b < n) × (l.a ≢ l.b) × IsTrue (any_joins (take i links) l.a l.b)
+IsFirstFault n links (Range i) = (l : Link) × FollowsFine n links i l × ((n ≤ l.a) ⊎ (n ≤ l.b))
+IsFirstFault n links (Loop i) = (l : Link) × FollowsFine n links i l × (l.a < n) × (l.a ≡ l.b)
+IsFirstFault n links (Repeat i) = (l : Link) × FollowsFine n links i l × (l.a < n) × (l.b < n) × (l.a ≢ l.b) × IsTrue (any_joins (take i links) l.a l.b)

@@ -1,5 +1,6 @@
 // Graphs, as a list of links with the neighbours of each node.
 ghost use Rattle.std.specs.Prelude.{◌≡◌, ◌≤◌, ◌<◌, length, map, IfOk, IfErr, IfSome, IfNone, false};
+ghost use Rattle.tomo_base.specs.Limits.{graph_link_limit, graph_node_limit};
 ghost use Rattle.tomo_base.specs.Network.{Network, linked, IsGraph};
 ghost use Rattle.tomo_base.specs.Table.{in_order, JoinsAt, AreHops, IsTable, IsFirstFault};
 
@@ -71,8 +72,8 @@ impl Graph {
     /// the first fault of the list: the first link, by its place from 0, that has an end which is no node, joins a node to itself, or joins
     /// the nodes of an earlier one; where a link has more than one of these, the first named.
     pub fn new(alloc: Global, n: u32, links: &[Link]) -> Result<Graph, GraphFault>
-        requires few_nodes { n ≤ 10000 }
-        requires few_links { length links.now ≤ 20000 }
+        requires few_nodes { n ≤ graph_node_limit }
+        requires few_links { length links.now ≤ graph_link_limit }
         ensures nodes { IfOk result (λ g. g.nodes ≡ n) }
         ensures links { IfOk result (λ g. g.links ≡ map in_order links.now) }
         ensures graph { IfOk result (λ g. IsGraph g) }
@@ -108,7 +109,7 @@ impl Graph {
     /// How many nodes there are. It takes no memory.
     pub fn nodes(&self) -> u32
         ensures nodes { result ≡ self.now.nodes }
-        ensures few { result ≤ 10000 }
+        ensures few { result ≤ graph_node_limit }
         ensures graph { IsGraph self.now }
     {
         self.node_count
@@ -117,7 +118,7 @@ impl Graph {
     /// The links, in the order in which they were given, each with its lower end first. It takes no memory.
     pub fn links(&self) -> &[Link]
         ensures links { result.now ≡ self.now.links }
-        ensures few { length result.now ≤ 20000 }
+        ensures few { length result.now ≤ graph_link_limit }
         ensures graph { IsGraph self.now }
     {
         &self.links

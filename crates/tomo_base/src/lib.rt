@@ -3,6 +3,7 @@
 
 mod graph;
 mod hop_rows;
+mod limits;
 mod memory;
 mod node_set;
 mod node_sets;
@@ -11,6 +12,9 @@ mod search;
 mod words;
 
 pub use graph::{Graph, GraphFault, Hop, Link};
+pub use limits::{
+    DELAY_LIMIT, GRAPH_LINK_LIMIT, GRAPH_NODE_LIMIT, LINK_LIMIT, NODE_LIMIT, SUM_LIMIT,
+};
 pub use memory::NoMemory;
 pub use node_set::NodeSet;
 pub use node_sets::NodeSets;

@@ -2,15 +2,16 @@
 ghost use Rattle.std.specs.Prelude.{◌≡◌, ◌<◌, ◌||◌, ◌==◌, ℕ, [], All, IfOk, OnOk, OnErr, length, not};
 ghost use Rattle.std.specs.List.{list_any};
 ghost use Rattle.std.specs.List.Sorted.{IsStrictlyIncreasing};
+ghost use Rattle.tomo_base.specs.Limits.{graph_node_limit};
 ghost use Rattle.tomo_base.specs.Sets.{has, union as in_union, outside as is_outside};
-ghost use Rattle.tomo_base.specs.NodeLists.{node_limit, IsNodeSet};
+ghost use Rattle.tomo_base.specs.NodeLists.{IsNodeSet};
 
 use crate::graph::{Graph, Hop};
 use crate::memory::NoMemory;
 use std::alloc::Global;
 use std::marker::Model;
 
-/// A set of nodes below 10,000. Contracts see its nodes as an ascending list.
+/// A set of nodes below `GRAPH_NODE_LIMIT`. Contracts see its nodes as an ascending list.
 #[derive(Drop)]
 pub struct NodeSet {
     nodes: Vec<u32>,
@@ -39,7 +40,7 @@ impl NodeSet {
 
     /// Puts a node into the set, and answers whether it is new.
     pub fn insert(&mut self, v: u32) -> Result<bool, NoMemory>
-        requires { v < node_limit }
+        requires { v < graph_node_limit }
         ensures nodes { OnOk result ((w : ℕ) → has self.new w ≡ ((v == w) || has self.old w)) }
         ensures new { IfOk result (λ new. new ≡ not (has self.old v)) }
         ensures ascending { OnOk result (IsStrictlyIncreasing self.new) }
@@ -73,7 +74,7 @@ impl NodeSet {
     pub fn as_slice(&self) -> &[u32]
         ensures nodes { result.now ≡ self.now }
         ensures ascending { IsStrictlyIncreasing self.now }
-        ensures below { All (λ v. v < node_limit) self.now }
+        ensures below { All (λ v. v < graph_node_limit) self.now }
     {
         &self.nodes
     }

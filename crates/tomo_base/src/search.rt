@@ -1,5 +1,6 @@
 // Searches over a graph.
 ghost use Rattle.std.specs.Prelude.{◌≡◌, ◌≢◌, ◌≤◌, ◌<◌, ◌+◌, ◌++◌, [], ◌∷◌, ℕ, Bool, List, length, set, true, All, AllPairs, IfOk, OnOk, IfSome, IfNone};
+ghost use Rattle.tomo_base.specs.Limits.{graph_node_limit};
 ghost use Rattle.tomo_base.specs.Search.{mark_of, entry_at, AreRanked, IsSearch, IsSweep};
 ghost use Rattle.tomo_base.specs.Walks.{Reaches, IsConnected, everything};
 
@@ -20,7 +21,7 @@ pub struct Swept {
 
 // Puts a node at the end of the order.
 fn reach(node: u32, from: u32, found: &mut Swept) -> Result<(), AllocError>
-    requires few { length found.old.order.items ≤ 10000 }
+    requires few { length found.old.order.items ≤ graph_node_limit }
     requires parent { node < length found.old.parent.items }
     requires rank { node < length found.old.rank.items }
     ensures order { OnOk result (found.new.order.items ≡ found.old.order.items ++ node ∷ []) }
@@ -36,7 +37,7 @@ fn reach(node: u32, from: u32, found: &mut Swept) -> Result<(), AllocError>
 
 // A search that has reached the seeds.
 fn plant(alloc: Global, n: u32, seeds: &[u32]) -> Result<Swept, NoMemory>
-    requires few { n ≤ 10000 }
+    requires few { n ≤ graph_node_limit }
     requires nodes { All (λ v. v < n) seeds.now }
     requires different { AllPairs (λ u v. u ≢ v) seeds.now }
     ensures order { IfOk result (λ s. s.order.items ≡ seeds.now) }

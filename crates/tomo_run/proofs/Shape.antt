@@ -7,7 +7,7 @@ use Rattle.std.specs.Str.{bytes_eq}
 use Rattle.answers.specs.declared.drilling.DrillNumbers.{DrillNumbers}
 use Rattle.answers.specs.Drilling.{fit}
 use Rattle.tomo_run.specs.Numbers.{number_of, numbers_in, numbers_of}
-use Rattle.tomo_run.specs.Table.{shape, shaped, drill_with, drill_shape, fits, first_place, has_header, files_of, word_count, file_words, named, begins_option, no_options}
+use Rattle.tomo_run.specs.Table.{shape, shaped, with_one_more, fitted_if, drill_with, drill_shape, fits, first_place, has_header, files_of, word_count, file_words, named, begins_option, no_options}
 use Rattle.tomo_run.specs.Machine.{begun, start, EndIsFit, Fewer}
 use Rattle.tomo_run.specs.declared.table.FileTask.{FileTask}
 use Rattle.answers.specs.declared.inputs.Inputs.TheVariants as inputs
@@ -16,7 +16,7 @@ use Rattle.tomo_run.specs.declared.machine.End.TheVariants.{Ready, Refused}
 use Rattle.tomo_run.specs.declared.machine.Next.TheVariants.{Stop}
 use Rattle.tomo_run.specs.declared.table.Command.{Command}
 use Rattle.tomo_run.specs.declared.table.Command.TheVariants.{OnFiles, Drill}
-use Rattle.tomo_run.specs.declared.table.FileTask.TheVariants.{OnTopology, OnMonitors, OnPlan}
+use Rattle.tomo_run.specs.declared.table.FileTask.TheVariants.{OnTopology, OnMonitors, OnChoice, OnPlan}
 use Rattle.tomo_run.specs.declared.table.PlanTask.TheVariants.{Check, Solve}
 use Rattle.tomo_run.specs.declared.table.Shape.{Shape}
 
@@ -25,19 +25,25 @@ fits-count : (words : List (List ℕ)) (command : Command) (first : ℕ) → fit
 fits-count words command first e = eqb-true _ _ (and_parts _ _ (and_parts _ _ e).0).1
 
 -- so has the shape that a test lets through
-tested-count : (words : List (List ℕ)) (task : FileTask) (b : Bool) (s : Shape)
+tested-count : (words : List (List ℕ)) (task : FileTask) (b : Bool) (other : Option Shape) (s : Shape)
     → (b ≡ true → length words - first_place (has_header words) ≡ word_count (OnFiles task))
-    → (if b then Some (record { command = OnFiles task; header = has_header words }) else None) ≡ Some s
+    → (other ≡ Some s → length words - first_place s.header ≡ word_count s.command)
+    → (if b then Some (record { command = OnFiles task; header = has_header words }) else other) ≡ Some s
     → length words - first_place s.header ≡ word_count s.command
-tested-count words task true s count e =
+tested-count words task true other s count later e =
     let same : ◌≡◌ {A = Shape} (record { command = OnFiles task; header = has_header words }) s = cc e in
     rw (← same) (count refl)
-tested-count words task false s count e = cc e
+tested-count words task false other s count later e = later e
+
+-- so has the shape of words for a task
+fitted-count : (words : List (List ℕ)) (o : Option FileTask) (s : Shape) → fitted_if words o ≡ Some s → length words - first_place s.header ≡ word_count s.command
+fitted-count words None s e = cc e
+fitted-count words (Some task) s e = tested-count words task _ None s (fits-count words (OnFiles task) _) (λ none. cc none) e
 
 -- and the shape of words that begin with the word of a task
 shaped-count : (words : List (List ℕ)) (o : Option FileTask) (s : Shape) → shaped words o ≡ Some s → length words - first_place s.header ≡ word_count s.command
 shaped-count words None s e = cc e
-shaped-count words (Some task) s e = tested-count words task _ s (fits-count words (OnFiles task) _) e
+shaped-count words (Some task) s e = tested-count words task _ _ s (fits-count words (OnFiles task) _) (fitted-count words (with_one_more task) s) e
 
 -- so has the shape of a drill
 drill-with-count : (words : List (List ℕ)) (o : Option DrillNumbers) (s : Shape) → length words ≡ 4 → drill_with o ≡ Some s → length words - first_place s.header ≡ word_count s.command
@@ -72,6 +78,7 @@ file_count words s e =
 pub files_few : (command : Command) → length (files_of command) ≤ 3
 files_few (OnFiles (OnTopology task)) = omega arith
 files_few (OnFiles (OnMonitors task)) = omega arith
+files_few (OnFiles OnChoice) = omega arith
 files_few (OnFiles (OnPlan Check)) = omega arith
 files_few (OnFiles (OnPlan Solve)) = omega arith
 files_few (Drill numbers) = omega arith
@@ -136,15 +143,21 @@ drill-with-fit (Some numbers) s fits e =
     subst (λ (s : Shape). CommandIsFit s.command) same (fits numbers refl)
 
 -- a shape on a topology has no numbers
-tested-fit : (words : List (List ℕ)) (task : FileTask) (b : Bool) (s : Shape) → (if b then Some (record { command = OnFiles task; header = has_header words }) else None) ≡ Some s → CommandIsFit s.command
-tested-fit words task true s e =
+tested-fit : (words : List (List ℕ)) (task : FileTask) (b : Bool) (other : Option Shape) (s : Shape) → (other ≡ Some s → CommandIsFit s.command)
+    → (if b then Some (record { command = OnFiles task; header = has_header words }) else other) ≡ Some s → CommandIsFit s.command
+tested-fit words task true other s later e =
     let same : ◌≡◌ {A = Shape} (record { command = OnFiles task; header = has_header words }) s = cc e in
     subst (λ (s : Shape). CommandIsFit s.command) same tt
-tested-fit words task false s e = cc e
+tested-fit words task false other s later e = later e
+
+-- nor has the shape of words for a task
+fitted-fit : (words : List (List ℕ)) (o : Option FileTask) (s : Shape) → fitted_if words o ≡ Some s → CommandIsFit s.command
+fitted-fit words None s e = cc e
+fitted-fit words (Some task) s e = tested-fit words task _ None s (λ none. cc none) e
 
 shaped-fit : (words : List (List ℕ)) (o : Option FileTask) (s : Shape) → shaped words o ≡ Some s → CommandIsFit s.command
 shaped-fit words None s e = cc e
-shaped-fit words (Some task) s e = tested-fit words task _ s e
+shaped-fit words (Some task) s e = tested-fit words task _ _ s (fitted-fit words (with_one_more task) s) e
 
 -- and any numbers of a shape are fit
 drill-shape-fit : (words : List (List ℕ)) (s : Shape) → drill_shape words ≡ Some s → CommandIsFit s.command

@@ -68,13 +68,15 @@ sums_no_path c tied file content end others status rows steps ends = elim (cases
 
 -- a plan that is printed is good
 printed_good : (t : Topo) (p : PlanParts) → IsPrinted t p → IsGoodPlan t.names t.graph p
-printed_good t p (inl planned, kept) = planned.good
-printed_good t p (inr (monitors, planned), kept) = planned.good
+printed_good t p (inl planned, kept) = planned.sound.good
+printed_good t p (inr (inl (monitors, planned)), kept) = planned.sound.good
+printed_good t p (inr (inr (choice, planned)), kept) = planned.sound.good
 
 -- and tied
 printed_tied : (t : Topo) (p : PlanParts) → IsPrinted t p → AreTied p.links p.paths p.recipes
-printed_tied t p (inl planned, kept) = planned.tied
-printed_tied t p (inr (monitors, planned), kept) = planned.tied
+printed_tied t p (inl planned, kept) = planned.sound.tied
+printed_tied t p (inr (inl (monitors, planned)), kept) = planned.sound.tied
+printed_tied t p (inr (inr (choice, planned)), kept) = planned.sound.tied
 
 -- so it is taken, and no round over it is refused for a path
 pub printed_names_no_path : GoodHasNoFault → PrintedNamesNoPath

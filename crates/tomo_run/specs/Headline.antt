@@ -2,10 +2,11 @@
 use Rattle.std.specs.Prelude.{ℕ, ◌≡◌, ◌⊎◌, ◌∷◌, [], List, length, codes, decimal}
 use Rattle.rows.specs.Rows.{Row, text_of}
 use Rattle.topology.specs.Topology.{Topo}
+use Rattle.topology.specs.declared.choice.Choice.{Choice}
 use Rattle.plan_form.specs.Parts.{PlanParts}
 use Rattle.plan_form.specs.PlanRows.{plan_rows}
 use Rattle.plan_form.specs.Good.{IsGoodPlan}
-use Rattle.planner.specs.Planned.{IsPlanned, IsPlanFor}
+use Rattle.planner.specs.Planned.{IsPlanned, IsPlanFor, IsPlannedWith}
 use Rattle.answers.specs.Planning.{IsKept}
 use Rattle.answers.specs.Rounds.{NameNoPath}
 use Rattle.answers.specs.declared.checked.Checked.{Checked}
@@ -37,15 +38,22 @@ PrintedIsReportedGood = (t : Topo) (p : PlanParts) (name : List ℕ) (next : Nex
     → Steps (APlan Check t) name (text_of (plan_rows p)) next
     → IsReportedGood p (length p.monitors) next
 
+-- so of the text of a plan under a choice, whose forced nodes count as needed
+abbrev pub ChosenIsReportedGood : Type 0
+ChosenIsReportedGood = (t : Topo) (choice : Choice) (p : PlanParts) (name : List ℕ) (next : Next) → IsPlannedWith t.names t.graph choice p → IsKept p
+    → Steps (APlan Check t) name (text_of (plan_rows p)) next
+    → IsReportedGood p (length p.monitors) next
+
 -- of the text of a plan for given monitors it reports that it is good, with the bound 0, since it has no pockets
 abbrev pub PathsAreReportedGood : Type 0
 PathsAreReportedGood = (t : Topo) (monitors : List ℕ) (p : PlanParts) (name : List ℕ) (next : Next)
     → IsPlanFor t.names t.graph monitors p → IsKept p → Steps (APlan Check t) name (text_of (plan_rows p)) next
     → IsReportedGood p 0 next
 
--- the plan is one that `plan` or `paths` prints for the topology
+-- the plan is one that `plan`, with a choice or without, or `paths` prints for the topology
 abbrev pub IsPrinted : Topo → PlanParts → Type 0
-IsPrinted t p = (IsPlanned t.names t.graph p ⊎ ((monitors : List ℕ) × IsPlanFor t.names t.graph monitors p)) × IsKept p
+IsPrinted t p =
+    (IsPlanned t.names t.graph p ⊎ (((monitors : List ℕ) × IsPlanFor t.names t.graph monitors p) ⊎ ((choice : Choice) × IsPlannedWith t.names t.graph choice p))) × IsKept p
 
 -- over the text of a plan that was printed `solve` asks for rounds, and refuses none of them for a path
 abbrev pub PrintedNamesNoPath : Type 0

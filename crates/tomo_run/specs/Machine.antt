@@ -10,25 +10,28 @@ use Rattle.topology.specs.declared.faults.TopoFault.TheVariants as faults
 use Rattle.topology.specs.declared.faults.MonFault.{MonFault}
 use Rattle.topology.specs.declared.faults.MonFault.TheVariants as mon_faults
 use Rattle.topology.specs.Monitors.{AllKnown, IsMonFault, monitors_of}
+use Rattle.topology.specs.Choice.{choice_of, AreFineChoices, IsChoiceFault}
+use Rattle.topology.specs.declared.faults.ChoiceFault.{ChoiceFault}
+use Rattle.topology.specs.declared.faults.ChoiceFault.TheVariants as choice_faults
 use Rattle.answers.specs.FileKinds.{limit}
 use Rattle.tomo_run.specs.Table.{files_of}
-use Rattle.answers.specs.Refusals.{refused, topology_reason, topology_place, monitor_reason, monitor_place, plan_reason, plan_place, check_reason, fault_number, round_reason, round_place}
+use Rattle.answers.specs.Refusals.{refused, topology_reason, topology_place, monitor_reason, monitor_place, choice_reason, choice_place, plan_reason, plan_place, check_reason, fault_number, round_reason, round_place}
 use Rattle.tomo_run.specs.declared.table.Command.{Command}
 use Rattle.tomo_run.specs.declared.table.Command.TheVariants.{OnFiles, Drill}
 use Rattle.tomo_run.specs.declared.table.FileTask.{FileTask}
-use Rattle.tomo_run.specs.declared.table.FileTask.TheVariants.{OnTopology, OnMonitors, OnPlan}
+use Rattle.tomo_run.specs.declared.table.FileTask.TheVariants.{OnTopology, OnMonitors, OnChoice, OnPlan}
 use Rattle.answers.specs.declared.tasks.MonitorTask.{MonitorTask}
 use Rattle.answers.specs.declared.file_kind.FileKind.{FileKind}
-use Rattle.answers.specs.declared.file_kind.FileKind.TheVariants.{TopologyFile, MonitorFile, PlanFile, RoundFile}
+use Rattle.answers.specs.declared.file_kind.FileKind.TheVariants.{TopologyFile, MonitorFile, ChoiceFile, PlanFile, RoundFile}
 use Rattle.tomo_run.specs.declared.table.Shape.{Shape}
 use Rattle.plan_form.specs.Parts.{PlanParts, IsWellFormed}
-use Rattle.plan_form.specs.PlanRows.{plan_rows}
+use Rattle.plan_form.specs.PlanRows.{AreRowsOf}
 use Rattle.plan_form.specs.Reading.{IsFirstPlanFault}
 use Rattle.plan_form.specs.Good.{IsGoodPlan}
 use Rattle.cert_check.specs.declared.report.Fault.{Fault}
 use Rattle.cert_check.specs.Faults.{IsFault}
 use Rattle.round_reader.specs.Sums.{AreRounds}
-use Rattle.round_reader.specs.Faults.{IsFirstFault}
+use Rattle.round_reader.specs.Faults.{IsFirstRoundFault}
 use Rattle.round_reader.specs.declared.faults.RoundFault.{RoundFault}
 use Rattle.round_reader.specs.declared.faults.RoundFault.TheVariants as round_faults
 use Rattle.plan_form.specs.declared.faults.PlanFault.{PlanFault}
@@ -36,10 +39,11 @@ use Rattle.plan_form.specs.declared.faults.PlanFault.TheVariants as plan_faults
 use Rattle.tomo_run.specs.declared.table.PlanTask.{PlanTask}
 use Rattle.tomo_run.specs.declared.table.PlanTask.TheVariants.{Check, Solve}
 use Rattle.answers.specs.declared.placed.Placed.{Placed}
+use Rattle.answers.specs.declared.chosen.Chosen.{Chosen}
 use Rattle.answers.specs.declared.checked.Checked.{Checked}
 use Rattle.answers.specs.declared.checked.Measured.{Measured}
 use Rattle.tomo_run.specs.declared.machine.Wants.{Wants}
-use Rattle.tomo_run.specs.declared.machine.Wants.TheVariants.{Topology, Monitors, APlan, Sums}
+use Rattle.tomo_run.specs.declared.machine.Wants.TheVariants.{Topology, Monitors, AChoice, APlan, Sums}
 use Rattle.answers.specs.declared.inputs.Inputs.{Inputs}
 use Rattle.answers.specs.declared.inputs.Inputs.TheVariants as inputs
 use Rattle.answers.specs.declared.inputs.FileInputs.{FileInputs}
@@ -54,6 +58,7 @@ use Rattle.tomo_run.specs.declared.machine.Next.TheVariants.{Ask, Stop}
 abbrev pub kind_of : Wants → FileKind
 kind_of (Topology task header) = TopologyFile
 kind_of (Monitors task topology) = MonitorFile
+kind_of (AChoice topology) = ChoiceFile
 kind_of (APlan task topology) = PlanFile
 kind_of (Sums checked) = RoundFile
 
@@ -61,6 +66,7 @@ kind_of (Sums checked) = RoundFile
 abbrev pub files_left : Wants → ℕ
 files_left (Topology task header) = length (files_of (OnFiles task))
 files_left (Monitors task topology) = 1
+files_left (AChoice topology) = 1
 files_left (APlan Check topology) = 1
 files_left (APlan Solve topology) = 2
 files_left (Sums checked) = 1
@@ -87,6 +93,7 @@ ready all = Stop (Ready (inputs.OnFiles all))
 abbrev pub with_topology : FileTask → Topo → Next
 with_topology (OnTopology task) t = ready (files.OnTopology task t)
 with_topology (OnMonitors task) t = Ask (Monitors task t)
+with_topology OnChoice t = Ask (AChoice t)
 with_topology (OnPlan task) t = Ask (APlan task t)
 
 -- what the rows of a topology file do: they are a topology, or refused for their first fault
@@ -102,6 +109,12 @@ TakesMonitors task t name rows next =
     (AllKnown t.names rows (length rows) × (p : Placed) × (p.topology ≡ t) × (p.monitors ≡ monitors_of t.names rows) × (next ≡ ready (files.OnMonitors task p)))
     ⊎ ((f : MonFault) × (f ≢ mon_faults.NoMemory) × IsMonFault t.names rows f × (next ≡ Stop (Refused (refused name (monitor_reason f) (monitor_place f)))))
 
+-- what the rows of a choice do: they choose nodes, or are refused for their first fault
+abbrev pub TakesChoice : Topo → List ℕ → List Row → Next → Type 0
+TakesChoice t name rows next =
+    (AreFineChoices t.names rows (length rows) × (c : Chosen) × (c.topology ≡ t) × (c.choice ≡ choice_of t.names rows) × (next ≡ ready (files.OnChoice c)))
+    ⊎ ((f : ChoiceFault) × (f ≢ choice_faults.NoMemory) × IsChoiceFault t.names rows f × (next ≡ Stop (Refused (refused name (choice_reason f) (choice_place f)))))
+
 -- a good plan goes on to the sums, any other is refused for its first fault
 abbrev pub TakesGood : Topo → PlanParts → List ℕ → Next → Type 0
 TakesGood t p name next =
@@ -116,19 +129,20 @@ GoesOn Solve t p name next = TakesGood t p name next
 -- what the rows of a plan file do: they are those of a plan, or refused for their first fault
 abbrev pub TakesPlan : PlanTask → Topo → List ℕ → List Row → Next → Type 0
 TakesPlan task t name rows next =
-    ((p : PlanParts) × IsWellFormed p × (rows ≡ plan_rows p) × GoesOn task t p name next)
+    ((p : PlanParts) × IsWellFormed p × AreRowsOf rows p × GoesOn task t p name next)
     ⊎ ((f : PlanFault) × (f ≢ plan_faults.NoMemory) × IsFirstPlanFault rows f × (next ≡ Stop (Refused (refused name (plan_reason f) (plan_place f)))))
 
 -- what the rows of a file of rounds do: they are rounds over the plan, or refused for their first fault
 abbrev pub TakesSums : Checked → List ℕ → List Row → Next → Type 0
 TakesSums c name rows next =
     ((m : Measured) × (m.checked ≡ c) × AreRounds (length c.plan.paths) rows m.rounds × (next ≡ ready (files.Solve m)))
-    ⊎ ((f : RoundFault) × (f ≢ round_faults.NoMemory) × IsFirstFault (length c.plan.paths) rows f × (next ≡ Stop (Refused (refused name (round_reason f) (round_place f)))))
+    ⊎ ((f : RoundFault) × (f ≢ round_faults.NoMemory) × IsFirstRoundFault (length c.plan.paths) rows f × (next ≡ Stop (Refused (refused name (round_reason f) (round_place f)))))
 
 -- what the rows of a file do
 abbrev pub Takes : Wants → List ℕ → List Row → Next → Type 0
 Takes (Topology task header) name rows next = TakesTopology task header name rows next
 Takes (Monitors task t) name rows next = TakesMonitors task t name rows next
+Takes (AChoice t) name rows next = TakesChoice t name rows next
 Takes (APlan task t) name rows next = TakesPlan task t name rows next
 Takes (Sums c) name rows next = TakesSums c name rows next
 

@@ -6,11 +6,11 @@ use Rattle.tomo_run.specs.declared.table.Command.{Command}
 use Rattle.tomo_run.specs.declared.table.Command.TheVariants.{OnFiles, Drill}
 use Rattle.answers.specs.declared.tasks.TopologyTask.TheVariants.{Plan, Components, Trees}
 use Rattle.tomo_run.specs.declared.table.FileTask.{FileTask}
-use Rattle.tomo_run.specs.declared.table.FileTask.TheVariants.{OnTopology, OnMonitors, OnPlan}
+use Rattle.tomo_run.specs.declared.table.FileTask.TheVariants.{OnTopology, OnMonitors, OnChoice, OnPlan}
 use Rattle.answers.specs.declared.tasks.MonitorTask.TheVariants.{Judge, Paths, Link}
 use Rattle.tomo_run.specs.declared.table.PlanTask.TheVariants.{Check, Solve}
 use Rattle.answers.specs.declared.file_kind.FileKind.{FileKind}
-use Rattle.answers.specs.declared.file_kind.FileKind.TheVariants.{TopologyFile, MonitorFile, PlanFile, RoundFile}
+use Rattle.answers.specs.declared.file_kind.FileKind.TheVariants.{TopologyFile, MonitorFile, ChoiceFile, PlanFile, RoundFile}
 use Rattle.tomo_run.specs.declared.table.Shape.{Shape}
 use Rattle.answers.specs.declared.drilling.DrillNumbers.{DrillNumbers}
 use Rattle.tomo_run.specs.Numbers.{numbers_of}
@@ -37,10 +37,16 @@ task_in word (line ∷ lines) = if bytes_eq word line.0 then Some line.1 else ta
 abbrev pub task_of : List ℕ → Option FileTask
 task_of word = task_in word table
 
+-- the task that the same word names where one file more follows
+abbrev pub with_one_more : FileTask → Option FileTask
+with_one_more (OnTopology Plan) = Some OnChoice
+with_one_more task = None
+
 -- the files of a command, in the order in which they are asked for: what its task stands on says which
 abbrev pub files_of : Command → List FileKind
 files_of (OnFiles (OnTopology task)) = TopologyFile ∷ []
 files_of (OnFiles (OnMonitors task)) = TopologyFile ∷ MonitorFile ∷ []
+files_of (OnFiles OnChoice) = TopologyFile ∷ ChoiceFile ∷ []
 files_of (OnFiles (OnPlan Check)) = TopologyFile ∷ PlanFile ∷ []
 files_of (OnFiles (OnPlan Solve)) = TopologyFile ∷ PlanFile ∷ RoundFile ∷ []
 files_of (Drill numbers) = []
@@ -51,6 +57,7 @@ other_words (OnFiles (OnTopology task)) = 0
 other_words (OnFiles (OnMonitors Link)) = 2
 other_words (OnFiles (OnMonitors Judge)) = 0
 other_words (OnFiles (OnMonitors Paths)) = 0
+other_words (OnFiles OnChoice) = 0
 other_words (OnFiles (OnPlan task)) = 0
 other_words (Drill numbers) = 3
 
@@ -81,11 +88,20 @@ abbrev pub fits : List (List ℕ) → Command → ℕ → Bool
 fits words command first =
     (nat_lt first (length words + 1) && (length words - first == word_count command)) && no_options (drop first words)
 
--- the shape of words that begin with the word of a task
+-- the shape of words that fit a task, and else the other
+abbrev pub fitted : List (List ℕ) → FileTask → Option Shape → Option Shape
+fitted words task other =
+    if fits words (OnFiles task) (first_place (has_header words)) then Some (record { command = OnFiles task; header = has_header words }) else other
+
+-- the shape of words for a task, where there is one
+abbrev pub fitted_if : List (List ℕ) → Option FileTask → Option Shape
+fitted_if words None = None
+fitted_if words (Some task) = fitted words task None
+
+-- the shape of words that begin with the word of a task: with the files of that task, or with one more
 abbrev pub shaped : List (List ℕ) → Option FileTask → Option Shape
 shaped words None = None
-shaped words (Some task) =
-    if fits words (OnFiles task) (first_place (has_header words)) then Some (record { command = OnFiles task; header = has_header words }) else None
+shaped words (Some task) = fitted words task (fitted_if words (with_one_more task))
 
 -- the shape of a drill
 abbrev pub drill_with : Option DrillNumbers → Option Shape

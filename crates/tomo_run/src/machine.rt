@@ -3,15 +3,16 @@ ghost use Rattle.std.specs.Prelude.{◌≡◌, ◌<◌, ◌≤◌, ◌^◌, IfOk
 ghost use Rattle.rows.specs.Rows.{rows_of, byte_count};
 ghost use Rattle.tomo_run.specs.Table.{files_of};
 ghost use Rattle.answers.specs.FileKinds.{limit};
-ghost use Rattle.tomo_run.specs.Machine.{files_left, kind_of, start, ready as all_read, with_topology as then_topology, TakesTopology, TakesMonitors, TakesGood, GoesOn, TakesPlan, TakesSums, Takes, StepsBy, Fewer, StartsWith};
+ghost use Rattle.tomo_run.specs.Machine.{files_left, kind_of, start, ready as all_read, with_topology as then_topology, TakesTopology, TakesMonitors, TakesChoice, TakesGood, GoesOn, TakesPlan, TakesSums, Takes, StepsBy, Fewer, StartsWith};
 ghost use Rattle.tomo_run.specs.declared.machine.Wants.TheVariants.{APlan};
 ghost use Rattle.tomo_run.specs.declared.table.Command.TheVariants.{OnFiles};
 ghost use Rattle.answers.specs.declared.file_kind.FileKind.TheVariants.{RoundFile};
 
 use crate::table::{Command, FileTask, PlanTask, Shape};
 use answers::{
-    Checked, FileInputs, FileKind, Inputs, Measured, MonitorTask, Placed, Planned, limit_of,
-    refuse_at, refuse_fault, refuse_monitors, refuse_plan, refuse_rounds, refuse_topology,
+    Checked, Chosen, FileInputs, FileKind, Inputs, Measured, MonitorTask, Placed, Planned,
+    limit_of, refuse_at, refuse_choice, refuse_fault, refuse_monitors, refuse_plan, refuse_rounds,
+    refuse_topology,
 };
 use cert_check::{Report, check};
 use outside::Got;
@@ -21,7 +22,7 @@ use rows::laws::{fields_are_no_longer_than_their_text, rows_are_no_more_than_byt
 use rows::{Rows, read_rows};
 use std::alloc::Global;
 use tomo_base::NoMemory;
-use topology::{Topology, read_monitors, read_topology};
+use topology::{Topology, read_choice, read_monitors, read_topology};
 
 /// The file that is wanted next, with what was read before it.
 #[derive(Drop)]
@@ -36,6 +37,8 @@ pub enum Wants {
         task: MonitorTask,
         topology: Topology,
     },
+    /// A choice for a topology.
+    AChoice(Topology),
     /// A plan for a topology.
     APlan {
         task: PlanTask,
@@ -67,6 +70,7 @@ impl Wants {
         match self {
             Wants::Topology { .. } => FileKind::TopologyFile,
             Wants::Monitors { .. } => FileKind::MonitorFile,
+            Wants::AChoice(_) => FileKind::ChoiceFile,
             Wants::APlan { .. } => FileKind::PlanFile,
             Wants::Sums(_) => FileKind::RoundFile,
         }
@@ -103,6 +107,7 @@ fn with_topology(task: FileTask, topology: Topology) -> Next
     match task {
         FileTask::OnTopology(task) => ready(FileInputs::OnTopology(task, topology)),
         FileTask::OnMonitors(task) => Next::Ask(Wants::Monitors { task, topology }),
+        FileTask::OnChoice => Next::Ask(Wants::AChoice(topology)),
         FileTask::OnPlan(task) => Next::Ask(Wants::APlan { task, topology }),
     }
 }
@@ -140,6 +145,17 @@ fn take_monitors(
     match read_monitors(alloc, &topology, rows) {
         Ok(monitors) => Ok(ready(FileInputs::OnMonitors(task, Placed { topology, monitors }))),
         Err(fault) => Ok(Next::Stop(End::Refused(refuse_monitors(alloc, name, fault)?))),
+    }
+}
+
+// Takes in a choice.
+fn take_choice(alloc: Global, topology: Topology, name: &str, rows: &Rows) -> Result<Next, NoMemory>
+    ensures taken { IfOk result (λ next. TakesChoice topology name.now rows.now.closed next) }
+    ensures fewer { IfOk result (λ next. Fewer 1 next) }
+{
+    match read_choice(alloc, &topology, rows) {
+        Ok(choice) => Ok(ready(FileInputs::OnChoice(Chosen { topology, choice }))),
+        Err(fault) => Ok(Next::Stop(End::Refused(refuse_choice(alloc, name, fault)?))),
     }
 }
 
@@ -214,6 +230,7 @@ fn take_in(alloc: Global, wants: Wants, name: &str, content: Vec<u8>) -> Result<
     match wants {
         Wants::Topology { task, header } => take_topology(alloc, task, header, name, &rows),
         Wants::Monitors { task, topology } => take_monitors(alloc, task, topology, name, &rows),
+        Wants::AChoice(topology) => take_choice(alloc, topology, name, &rows),
         Wants::APlan { task, topology } => take_plan(alloc, task, topology, name, &rows),
         Wants::Sums(checked) => take_sums(alloc, checked, name, &rows),
     }

@@ -3,7 +3,7 @@ ghost use Rattle.std.specs.Prelude.{◌≡◌, ◌<◌, [], length, Some, None, 
 ghost use Rattle.tomo_run.specs.Numbers.{number_of, numbers_of};
 ghost use Rattle.answers.specs.Drilling.{fit};
 
-use answers::DrillNumbers;
+use answers::{DRAWN_LINK_LIMIT, DRAWN_NODE_LIMIT, DrillNumbers};
 use plan_form::number;
 use tomo_base::Words;
 
@@ -15,15 +15,15 @@ fn number_at(words: &Words, place: u32) -> Option<u32>
     number(words.at(place).as_bytes())
 }
 
-// Whether a network can be drawn by the numbers: the seed is below 2^31, there are 3 to 1,000 nodes, and so many links that they can
-// join all nodes, at most 4,000 and at most one for each pair of nodes.
+// Whether a network can be drawn by the numbers: the seed is below 2^31, there are 3 to `DRAWN_NODE_LIMIT` nodes, and so many links that
+// they can join all nodes, at most `DRAWN_LINK_LIMIT` and at most one for each pair of nodes.
 fn are_fit(x: DrillNumbers) -> bool
     ensures { result ≡ fit x }
 {
     x.seed < 1 << 31
         && 3 <= x.nodes
-        && x.nodes <= 1_000
-        && x.links <= 4_000
+        && x.nodes <= DRAWN_NODE_LIMIT
+        && x.links <= DRAWN_LINK_LIMIT
         && x.nodes <= x.links + 1
         && x.links <= x.nodes * (x.nodes - 1) / 2
 }

@@ -3,13 +3,13 @@ ghost use Rattle.std.specs.Prelude.{◌≡◌, ◌≢◌, ◌++◌, None, IfSome
 ghost use Rattle.outside.specs.Causes.{Rose};
 ghost use Rattle.tomo_run.specs.Table.{shape, file_words};
 ghost use Rattle.tomo_run.specs.Status.{IsResult};
-ghost use Rattle.tomo_run.specs.Headline.{PrintedIsTaken, PrintedIsReportedGood, PathsAreReportedGood, PrintedNamesNoPath};
+ghost use Rattle.tomo_run.specs.Headline.{PrintedIsTaken, PrintedIsReportedGood, ChosenIsReportedGood, PathsAreReportedGood, PrintedNamesNoPath};
 ghost use Rattle.tomo_run.specs.Run.{AddsFront, StopsAtRefusal, KnowsAll, Wrote};
 
 use crate::gather::gather;
 use crate::laws::{
-    a_printed_plan_is_reported_good, a_printed_plan_is_taken, a_printed_plan_names_no_path,
-    printed_paths_are_reported_good,
+    a_chosen_plan_is_reported_good, a_printed_plan_is_reported_good, a_printed_plan_is_taken,
+    a_printed_plan_names_no_path, printed_paths_are_reported_good,
 };
 use crate::output::output_of;
 use crate::table::shape_of;
@@ -39,8 +39,10 @@ pub fn tomo<S: Shelf, K: Sink>(alloc: Global, words: &Words, shelf: &mut S, sink
     // A good plan that was printed is taken by `solve`, and never refused.
     ensures taken { PrintedIsTaken }
 
-    // A plan that was printed is reported good by `check`: that of `plan` with two equal numbers, that of `paths` with the bound 0.
+    // A plan that was printed is reported good by `check`: that of `plan`, under a choice or not, with two equal numbers, that of `paths`
+    // with the bound 0.
     ensures reported { PrintedIsReportedGood }
+    ensures chosen_reported { ChosenIsReportedGood }
     ensures paths_reported { PathsAreReportedGood }
 
     // Over a plan that was printed `solve` refuses no round for a path.
@@ -51,6 +53,7 @@ pub fn tomo<S: Shelf, K: Sink>(alloc: Global, words: &Words, shelf: &mut S, sink
 {
     a_printed_plan_is_taken();
     a_printed_plan_is_reported_good();
+    a_chosen_plan_is_reported_good();
     printed_paths_are_reported_good();
     a_printed_plan_names_no_path();
     let shape = match shape_of(words) {

@@ -1,6 +1,6 @@
 // The table of commands: the words that each takes, and the shape of a command line.
-ghost use Rattle.std.specs.Prelude.{◌≡◌, ◌<◌, ◌≤◌, [], length, drop, Option, Some, slice_index_or};
-ghost use Rattle.tomo_run.specs.Table.{task_of, files_of, other_words as words_behind, first_place, begins_option, no_options, shaped, drill_shape as shape_of_drill, shape, shape as shape_in, last_words};
+ghost use Rattle.std.specs.Prelude.{◌≡◌, ◌<◌, ◌≤◌, [], length, drop, Option, Some, None, slice_index_or};
+ghost use Rattle.tomo_run.specs.Table.{task_of, files_of, other_words as words_behind, first_place, begins_option, no_options, with_one_more as longer, fitted, shaped, drill_shape as shape_of_drill, shape, shape as shape_in, last_words};
 
 use crate::numbers::drill_numbers;
 use answers::{DrillNumbers, MonitorTask, TopologyTask};
@@ -18,6 +18,7 @@ pub enum Command {
 pub enum FileTask {
     OnTopology(TopologyTask),
     OnMonitors(MonitorTask),
+    OnChoice,
     OnPlan(PlanTask),
 }
 
@@ -60,6 +61,7 @@ fn file_count(command: Command) -> u32
     match command {
         Command::OnFiles(FileTask::OnTopology(_)) => 1,
         Command::OnFiles(FileTask::OnMonitors(_)) => 2,
+        Command::OnFiles(FileTask::OnChoice) => 2,
         Command::OnFiles(FileTask::OnPlan(PlanTask::Check)) => 2,
         Command::OnFiles(FileTask::OnPlan(PlanTask::Solve)) => 3,
         Command::Drill(_) => 0,
@@ -121,12 +123,22 @@ fn drill_shape(words: &Words) -> Option<Shape>
     })
 }
 
-// The shape of words that begin with the word of a task over files.
-fn topology_shape(words: &Words) -> Option<Shape>
-    requires { 0 < length words.now }
-    ensures { result ≡ shaped words.now (task_of (slice_index_or words.now 0 [])) }
+// The task that the same word names where one file more follows.
+fn with_one_more(task: FileTask) -> Option<FileTask>
+    ensures { result ≡ longer task }
 {
-    let command = Command::OnFiles(named_task(words.at(0))?);
+    match task {
+        FileTask::OnTopology(TopologyTask::Plan) => Some(FileTask::OnChoice),
+        _ => None,
+    }
+}
+
+// The shape of words that fit a task over files.
+fn fitted_shape(words: &Words, task: FileTask) -> Option<Shape>
+    requires { 0 < length words.now }
+    ensures { result ≡ fitted words.now task None }
+{
+    let command = Command::OnFiles(task);
     let header = words.len() > 1 && words.at(1) == "--header";
     let shape = Shape { command, header };
     let first = shape.first();
@@ -140,6 +152,19 @@ fn topology_shape(words: &Words) -> Option<Shape>
     }
 }
 
+// The shape of words that begin with the word of a task over files: with its files, or with one more.
+fn task_shape(words: &Words) -> Option<Shape>
+    requires { 0 < length words.now }
+    ensures { result ≡ shaped words.now (task_of (slice_index_or words.now 0 [])) }
+{
+    let task = named_task(words.at(0))?;
+    if let Some(shape) = fitted_shape(words, task) {
+        return Some(shape);
+    }
+    let longer = with_one_more(task)?;
+    fitted_shape(words, longer)
+}
+
 /// The shape of the words, where they have one.
 pub fn shape_of(words: &Words) -> Option<Shape>
     ensures { result ≡ shape words.now }
@@ -150,7 +175,7 @@ pub fn shape_of(words: &Words) -> Option<Shape>
     if words.at(0) == "drill" {
         drill_shape(words)
     } else {
-        topology_shape(words)
+        task_shape(words)
     }
 }
 

@@ -10,6 +10,7 @@ use Rattle.std.proofs.lemmas.List.Folds.{list_any-append}
 use Rattle.std.proofs.lemmas.Map.Keys.{IsDistinct-push}
 use Rattle.std.proofs.lemmas.Slice.Eq.{bytes_eq-Decides}
 use Rattle.std.proofs.lemmas.Str.{IsUtf8-from_ascii}
+use Rattle.tomo_base.specs.Limits.{link_limit, node_limit}
 use Rattle.indexmap.specs.IndexSet.{insert_key}
 use Rattle.tomo_base.specs.Network.{Network, IsGraph}
 use Rattle.tomo_base.specs.Walks.{IsConnected}
@@ -60,7 +61,7 @@ decimals_differ zero le = tt
 decimals_differ (suc k) le = IsDistinct-push nat_list_eq_equiv (decimals k) (decimal k) (decimals_differ k (omega (arith, le))) (new_decimal k k (omega arith) (omega (arith, le)))
 
 -- so a connected graph within the limits is a topology with these names
-pub numbered_is_topology : (g : Network) → IsGraph g → IsConnected g → 3 ≤ g.nodes → g.nodes ≤ 1000 → length g.links ≤ 4000 → IsTopology (numbered g)
+pub numbered_is_topology : (g : Network) → IsGraph g → IsConnected g → 3 ≤ g.nodes → g.nodes ≤ node_limit → length g.links ≤ link_limit → IsTopology (numbered g)
 numbered_is_topology g graph connected some few few_links = record {
   graph = graph;
   connected = connected;

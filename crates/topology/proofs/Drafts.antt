@@ -5,6 +5,7 @@ use Rattle.std.proofs.lemmas.Bool.{or_left, or_right}
 use Rattle.std.proofs.lemmas.List.{map_push, append_assoc, flat_map_more}
 use Rattle.std.proofs.lemmas.List.Elements.{All-nil}
 use Rattle.std.proofs.lemmas.Slice.Eq.{bytes_eq-Decides}
+use Rattle.tomo_base.specs.Limits.{link_limit, node_limit}
 use Rattle.indexmap.specs.IndexSet.{insert_key}
 use Rattle.tomo_base.specs.declared.graph.Link.{Link}
 use Rattle.tomo_base.specs.Table.{in_order}
@@ -99,7 +100,7 @@ draft_none = record {
 
 -- a draft keeps its form where a row names two different names
 pub draft_step : (names : List (List ℕ)) (links : List Link) (row : Row) → IsDraft names links → is_name (name_at row 0) ≡ true → is_name (name_at row 1) ≡ true → bytes_eq (name_at row 0) (name_at row 1) ≡ false
-    → length (with_names names row) ≤ 1000 → length (insert_key same_link links (new_link names row)) ≤ 4000 → IsDraft (with_names names row) (insert_key same_link links (new_link names row))
+    → length (with_names names row) ≤ node_limit → length (insert_key same_link links (new_link names row)) ≤ link_limit → IsDraft (with_names names row) (insert_key same_link links (new_link names row))
 draft_step names links row draft first second differ few_nodes few_links =
     let one : List (List ℕ) = insert_key bytes_eq names (name_at row 0) in
     let here : list_any (bytes_eq (name_at row 0)) (with_names names row) ≡ true = any_kept bytes_eq _ one (name_at row 1) (any_inserted bytes_eq bytes_eq-Decides names (name_at row 0)) in

@@ -1,15 +1,12 @@
 -- A list of links, lower end first and each once, is a graph, and stays one when a link is added.
-use Rattle.std.proofs.Common.{◌≡◌, ◌≢◌, ℕ, zero, suc, ◌<◌, ◌≤◌, true, false, List, [], ◌∷◌, map, take, slice_get, Some, refl, ap₂, ◌∙◌, inl, inr, arith}
+use Rattle.std.proofs.Common.{◌≡◌, ◌≢◌, ℕ, ◌<◌, ◌≤◌, true, false, List, [], ◌∷◌, refl, ap₂, inl, inr, arith}
 use Rattle.std.specs.List.{list_any}
-use Rattle.std.proofs.lemmas.Bool.{cases_Bool, both_ways, or_parts, or_from, le-ltb, lt-ltb}
+use Rattle.std.proofs.lemmas.Bool.{cases_Bool, or_parts, or_from, le-ltb, lt-ltb}
 use Rattle.std.proofs.lemmas.Bool.Decides.{nat_tests}
 use Rattle.indexmap.specs.IndexSet.{insert_key}
 use Rattle.tomo_base.specs.declared.graph.Link.{Link}
-use Rattle.tomo_base.specs.declared.graph.GraphFault.{GraphFault}
-use Rattle.tomo_base.specs.declared.graph.GraphFault.TheVariants.{NoMemory, Range, Loop, Repeat}
-use Rattle.tomo_base.specs.Network.{Network, joins, any_joins, AreLinks}
-use Rattle.tomo_base.specs.Table.{in_order, IsFirstFault}
-use Rattle.tomo_base.proofs.Links.{link_at}
+use Rattle.tomo_base.specs.Network.{joins, any_joins, AreLinks}
+use Rattle.tomo_base.specs.Table.{in_order}
 use Rattle.tomo_base.proofs.Entering.{in_order_ends}
 use Rattle.tomo_base.proofs.Rows.{AreLinks-push}
 use Rattle.topology.specs.Topology.{link_between, same_link}

@@ -7,7 +7,9 @@ pub mod Drafts
 pub mod RowFaults
 pub mod Reading
 pub mod Ending
+pub mod Picked
 pub mod Named
+pub mod Choices
 pub mod OneAnswer
 pub mod Examples
 pub mod Decimals

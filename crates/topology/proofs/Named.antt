@@ -1,74 +1,38 @@
 -- Which nodes the rows before a place name, one row on and at the end.
-use Rattle.std.proofs.Common.{◌≡◌, ◌≢◌, ℕ, ◌+◌, ◌<◌, ◌≤◌, Bool, false, ◌&&◌, ◌||◌, ◌==◌, nat_lt, List, [], ◌∷◌, length, take, get_or, slice_get, refl, sym, ap, ◌∙◌, inl, inr, arith, AllPairs, bytes_eq, Some}
+use Rattle.std.proofs.Common.{◌≡◌, ◌≢◌, ℕ, ◌+◌, ◌<◌, ◌≤◌, Bool, false, ◌||◌, ◌==◌, List, [], length, take, get_or, slice_get, refl, ap, ◌∙◌, inl, inr, arith, AllPairs, bytes_eq, Some}
 use Rattle.std.specs.List.{list_any}
 use Rattle.std.specs.List.Sorted.{IsStrictlyIncreasing}
-use Rattle.std.proofs.lemmas.Bool.{cases_Bool, cases_eq, cases_lt, false_from_ne_true, ne_eqb, eq-eqb, lt-ltb, le-ltb}
-use Rattle.std.proofs.lemmas.List.{take_more, take_all}
-use Rattle.std.proofs.lemmas.List.Folds.{list_any-append, list_any-from_Any}
+use Rattle.std.proofs.lemmas.Bool.{cases_eq, ne_eqb}
+use Rattle.std.proofs.lemmas.List.{take_all}
+use Rattle.std.proofs.lemmas.List.Folds.{list_any-from_Any}
 use Rattle.std.proofs.lemmas.Option.{get_or_from_slice_get, slice_get_within}
 use Rattle.std.proofs.lemmas.Slice.Eq.{bytes_eq-Decides}
-use Rattle.tomo_base.specs.Sets.{has, members}
-use Rattle.tomo_base.proofs.Ascending.{same_list, members_ascend}
-use Rattle.tomo_base.proofs.Members.{members_below, has-members}
+use Rattle.tomo_base.specs.Sets.{has}
 use Rattle.rows.specs.Rows.{Row}
 use Rattle.topology.specs.declared.faults.MonFault.TheVariants.{Unknown}
 use Rattle.topology.specs.Names.{name_at}
 use Rattle.topology.specs.Monitors.{is_known, AllKnown, IsMonFault, monitors_of}
+use Rattle.topology.proofs.Picked.{is_picked, picked_more, picked_none, picked_are, same_name}
 
--- a row names the node
-abbrev pub names_node : List (List ℕ) → ℕ → Row → Bool
-names_node names v row = bytes_eq (name_at row 0) (get_or names v [])
+-- a row names the node with the name in its first field
+abbrev pub names_it : List ℕ → Row → Bool
+names_it name row = bytes_eq (name_at row 0) name
 
 -- v is a node, and one of the rows names it
 abbrev pub is_named : List (List ℕ) → List Row → ℕ → Bool
-is_named names rows v = nat_lt v (length names) && list_any (names_node names v) rows
-
--- names at two places are different
-names_apart : (names : List (List ℕ)) (v w : ℕ) → AllPairs (λ x y. x ≢ y) names → v < length names → w < length names → v ≢ w → get_or names v [] ≢ get_or names w []
-names_apart names v w differ lv lw ne same = elim (cases_lt v w) [
-  | inl lt ↦ differ v w [] lt lw same
-  | inr ge ↦ differ w v [] (omega (arith, ge, ne)) lv (sym same)
-]
-
--- a row names a node exactly where the node has its name
-named_by_row : (names : List (List ℕ)) (row : Row) (v w : ℕ) → AllPairs (λ x y. x ≢ y) names → slice_get names v ≡ Some (name_at row 0) → w < length names → names_node names w row ≡ (v == w)
-named_by_row names row v w differ at within =
-    let is : get_or names v [] ≡ name_at row 0 = get_or_from_slice_get names v (name_at row 0) [] at in
-    elim (cases_eq v w) [
-      | inl same ↦ (bytes_eq-Decides (name_at row 0) (get_or names w [])).1 (sym is ∙ ap (λ u. get_or names u []) same) ∙ sym (eq-eqb v w same)
-      | inr other ↦ false_from_ne_true (names_node names w row) (λ e. names_apart names v w differ (slice_get_within names v (name_at row 0) at) within other (is ∙ (bytes_eq-Decides (name_at row 0) (get_or names w [])).0 e)) ∙ sym (ne_eqb v w other)
-    ]
+is_named names rows v = is_picked names_it names rows v
 
 -- the node of one more row is named
 pub named_more : (names : List (List ℕ)) (rows : List Row) (i v w : ℕ) → AllPairs (λ x y. x ≢ y) names → i < length rows → slice_get names v ≡ Some (name_at (get_or rows i []) 0)
     → ((v == w) || is_named names (take i rows) w) ≡ is_named names (take (i + 1) rows) w
-named_more names rows i v w differ within at = elim (cases_lt w (length names)) [
-  | inl lt ↦ rw (lt-ltb w (length names) lt, take_more rows i [] within, list_any-append (names_node names w) (take i rows) (get_or rows i [] ∷ []), named_by_row names (get_or rows i []) v w differ at lt) (turned _ _)
-  | inr ge ↦ (
-      let ne : v == w ≡ false = ne_eqb v w (λ e. omega (arith, slice_get_within names v _ at, e, ge)) in
-      rw (ne, le-ltb w (length names) ge) refl)
-]
-  where
-    turned : (a b : Bool) → (a || b) ≡ (b || (a || false))
-    turned a b = grind arith
-
--- no row, no named node
-pub named_none : (names : List (List ℕ)) (w : ℕ) → has [] w ≡ is_named names [] w
-unfolding has
-named_none names w = elim (cases_Bool (nat_lt w (length names))) [ inl e ↦ rw e refl | inr e ↦ rw e refl ]
-
--- ---- as a list
+named_more names rows i v w differ within at = picked_more names_it names rows i w (v == w) within (λ lt. same_name names (name_at (get_or rows i []) 0) v w differ at lt)
+    (λ ge. ne_eqb v w (λ e. omega (arith, slice_get_within names v _ at, e, ge)))
 
 -- an ascending list of the nodes that the rows name is their list
 pub monitors_are : (names : List (List ℕ)) (rows : List Row) (i : ℕ) (monitors : List ℕ) → length rows ≤ i → IsStrictlyIncreasing monitors → ((w : ℕ) → has monitors w ≡ is_named names (take i rows) w)
     → monitors ≡ monitors_of names rows
 unfolding monitors_of
-monitors_are names rows i monitors past up named = same_list monitors (members (length names) _) up (members_ascend (length names) _) (λ w. named w ∙ (rw (take_all i rows past) (elim (cases_lt w (length names)) [
-  | inl lt ↦ rw (lt-ltb w (length names) lt) (sym (has-members (length names) _ w lt))
-  | inr ge ↦ rw (le-ltb w (length names) ge) (sym (members_below (length names) _ w ge))
-])))
-
--- ---- known rows
+monitors_are names rows i monitors past up named = picked_are names_it names rows monitors up (λ w. named w ∙ rw (take_all i rows past) refl)
 
 -- one more row that names a node
 pub known_more : (names : List (List ℕ)) (rows : List Row) (i v : ℕ) → AllKnown names rows i → slice_get names v ≡ Some (name_at (get_or rows i []) 0) → AllKnown names rows (i + 1)
@@ -88,7 +52,7 @@ pub record HasNamed (names : List (List ℕ)) (rows : List Row) (monitors : List
 pub read_none : (names : List (List ℕ)) (rows : List Row) (monitors : List ℕ) → monitors ≡ [] → HasNamed names rows monitors 0
 read_none names rows monitors none = rw none (record {
   known = λ k before. absurd (omega arith);
-  named = named_none names;
+  named = picked_none names_it names;
 })
 
 -- one row on

@@ -1,6 +1,7 @@
 -- The fault of one row, case by case, and what a row without a fault does to a draft.
 use Rattle.std.proofs.Common.{◌≡◌, ℕ, ◌<◌, ◌≤◌, true, false, nat_lt, cond, List, [], ◌∷◌, ◌++◌, length, refl, sym, bytes_eq, Some, None}
 use Rattle.std.proofs.lemmas.Bool.{and_left, and_right, and_from, lt-ltb, le-ltb}
+use Rattle.tomo_base.specs.Limits.{link_limit, node_limit}
 use Rattle.indexmap.specs.IndexSet.{insert_key}
 use Rattle.tomo_base.specs.declared.graph.Link.{Link}
 use Rattle.tomo_base.specs.Table.{in_order}
@@ -36,7 +37,7 @@ fault_loop before row number wide first second equal =
 
 -- two different names leave the limits alone to be passed
 past_names : (before : List Row) (row : Row) (number : ℕ) (first second : List ℕ) → LinksNames row first second
-    → row_fault before row number ≡ cond (nat_lt 1000 (length (names_of (before ++ row ∷ [])))) (Some (Nodes number)) (cond (nat_lt 4000 (length (links_of (before ++ row ∷ [])))) (Some (Links number)) None)
+    → row_fault before row number ≡ cond (nat_lt node_limit (length (names_of (before ++ row ∷ [])))) (Some (Nodes number)) (cond (nat_lt link_limit (length (links_of (before ++ row ∷ [])))) (Some (Links number)) None)
 unfolding row_fault
 past_names before row number first second names =
     let first_named : is_name (name_at row 0) ≡ true = rw names.first_is at names.first_named in
@@ -60,35 +61,35 @@ pub links_taken : (before : List Row) (row : Row) (names : List (List ℕ)) (lin
     → with_link names links first second ≡ links_of (before ++ row ∷ [])
 links_taken before row names links first second draft linked = rw (linked.first_is, linked.second_is, draft.links_are, draft.names_are) (sym (links_more before row))
 
--- more than 1,000 names
+-- more names than a topology may have nodes
 pub fault_nodes : (before : List Row) (row : Row) (number : ℕ) (names : List (List ℕ)) (links : List Link) (first second : List ℕ) → IsDraftOf before names links → LinksNames row first second
-    → 1000 < length (two_names names first second) → row_fault before row number ≡ Some (Nodes number)
+    → node_limit < length (two_names names first second) → row_fault before row number ≡ Some (Nodes number)
 fault_nodes before row number names links first second draft linked many =
-    let all : 1000 < length (names_of (before ++ row ∷ [])) = rw (← names_taken before row names links first second draft linked) many in
-    rw (past_names before row number first second linked, lt-ltb 1000 (length (names_of (before ++ row ∷ []))) all) refl
+    let all : node_limit < length (names_of (before ++ row ∷ [])) = rw (← names_taken before row names links first second draft linked) many in
+    rw (past_names before row number first second linked, lt-ltb node_limit (length (names_of (before ++ row ∷ []))) all) refl
 
--- more than 4,000 links
+-- more links than a topology may have
 pub fault_links : (before : List Row) (row : Row) (number : ℕ) (names : List (List ℕ)) (links : List Link) (first second : List ℕ) → IsDraftOf before names links → LinksNames row first second
-    → length (two_names names first second) ≤ 1000 → 4000 < length (with_link names links first second) → row_fault before row number ≡ Some (Links number)
+    → length (two_names names first second) ≤ node_limit → link_limit < length (with_link names links first second) → row_fault before row number ≡ Some (Links number)
 fault_links before row number names links first second draft linked few many =
-    let nodes : length (names_of (before ++ row ∷ [])) ≤ 1000 = rw (← names_taken before row names links first second draft linked) few in
-    let all : 4000 < length (links_of (before ++ row ∷ [])) = rw (← links_taken before row names links first second draft linked) many in
-    rw (past_names before row number first second linked, le-ltb 1000 (length (names_of (before ++ row ∷ []))) nodes, lt-ltb 4000 (length (links_of (before ++ row ∷ []))) all) refl
+    let nodes : length (names_of (before ++ row ∷ [])) ≤ node_limit = rw (← names_taken before row names links first second draft linked) few in
+    let all : link_limit < length (links_of (before ++ row ∷ [])) = rw (← links_taken before row names links first second draft linked) many in
+    rw (past_names before row number first second linked, le-ltb node_limit (length (names_of (before ++ row ∷ []))) nodes, lt-ltb link_limit (length (links_of (before ++ row ∷ []))) all) refl
 
 -- no fault, and the draft of the rows with the row
 pub row_taken : (before : List Row) (row : Row) (number : ℕ) (names : List (List ℕ)) (links : List Link) (first second : List ℕ) → IsDraftOf before names links → LinksNames row first second
-    → length (two_names names first second) ≤ 1000 → length (with_link names links first second) ≤ 4000
+    → length (two_names names first second) ≤ node_limit → length (with_link names links first second) ≤ link_limit
     → (row_fault before row number ≡ None) × IsDraftOf (before ++ row ∷ []) (two_names names first second) (with_link names links first second)
 row_taken before row number names links first second draft linked few_names few_links =
     let names_is = names_taken before row names links first second draft linked in
     let links_is = links_taken before row names links first second draft linked in
-    let nodes : length (names_of (before ++ row ∷ [])) ≤ 1000 = rw (← names_is) few_names in
-    let all : length (links_of (before ++ row ∷ [])) ≤ 4000 = rw (← links_is) few_links in
+    let nodes : length (names_of (before ++ row ∷ [])) ≤ node_limit = rw (← names_is) few_names in
+    let all : length (links_of (before ++ row ∷ [])) ≤ link_limit = rw (← links_is) few_links in
     let first_named : is_name (name_at row 0) ≡ true = rw linked.first_is at linked.first_named in
     let second_named : is_name (name_at row 1) ≡ true = rw linked.second_is at linked.second_named in
     let differ : bytes_eq (name_at row 0) (name_at row 1) ≡ false = rw (linked.first_is, linked.second_is) at linked.differ in
     let step : IsDraft (with_names names row) (insert_key same_link links (new_link names row)) =
     draft_step names links row draft.draft first_named second_named differ (rw (linked.first_is, linked.second_is) at few_names) (rw (linked.first_is, linked.second_is) at few_links) in (
-      rw (past_names before row number first second linked, le-ltb 1000 (length (names_of (before ++ row ∷ []))) nodes, le-ltb 4000 (length (links_of (before ++ row ∷ []))) all) refl,
+      rw (past_names before row number first second linked, le-ltb node_limit (length (names_of (before ++ row ∷ []))) nodes, le-ltb link_limit (length (links_of (before ++ row ∷ []))) all) refl,
       record { names_are = names_is; links_are = links_is; draft = rw (linked.first_is, linked.second_is) step },
     )

@@ -1,6 +1,7 @@
 -- What the rows so far name, while rows are read.
 use Rattle.std.specs.Prelude.{ℕ, ◌≡◌, ◌≤◌, ◌+◌, false, List, [], ◌∷◌, ◌++◌, length, All, IsTrue, bytes_eq, None, Some, ⊤}
 use Rattle.std.specs.List.{IsDistinct}
+use Rattle.tomo_base.specs.Limits.{link_limit, node_limit}
 use Rattle.tomo_base.specs.declared.graph.Link.{Link}
 use Rattle.tomo_base.specs.Network.{AreLinks}
 use Rattle.rows.specs.Rows.{Row}
@@ -15,8 +16,8 @@ pub record IsDraft (names : List (List ℕ)) (links : List Link) : Type 0 where
   pub graph : AreLinks (length names) links
   pub named : All (λ name. IsTrue (is_name name)) names
   pub different : IsDistinct bytes_eq names
-  pub few_nodes : length names ≤ 1000
-  pub few_links : length links ≤ 4000
+  pub few_nodes : length names ≤ node_limit
+  pub few_links : length links ≤ link_limit
 
 -- they are the names and the links of the rows
 pub record IsDraftOf (rows : List Row) (names : List (List ℕ)) (links : List Link) : Type 0 where

@@ -1,5 +1,6 @@
 -- The first fault of rows that are no topology.
 use Rattle.std.specs.Prelude.{ℕ, ◌≡◌, ◌≤◌, ◌<◌, ◌+◌, Bool, true, false, not, ◌&&◌, nat_lt, List, [], ◌∷◌, ◌++◌, length, take, drop, bytes_eq, Option, Some, None, if◌then◌else◌, ⊤}
+use Rattle.tomo_base.specs.Limits.{link_limit, node_limit}
 use Rattle.tomo_base.specs.Network.{Network}
 use Rattle.tomo_base.specs.Walks.{Reaches, everything}
 use Rattle.rows.specs.Rows.{Row}
@@ -14,8 +15,8 @@ row_fault before row number =
     if nat_lt (length row) 2 then Some (Width number)
     else if not (is_name (name_at row 0) && is_name (name_at row 1)) then Some (Name number)
     else if bytes_eq (name_at row 0) (name_at row 1) then Some (Loop number)
-    else if nat_lt 1000 (length (names_of (before ++ row ∷ []))) then Some (Nodes number)
-    else if nat_lt 4000 (length (links_of (before ++ row ∷ []))) then Some (Links number)
+    else if nat_lt node_limit (length (names_of (before ++ row ∷ []))) then Some (Nodes number)
+    else if nat_lt link_limit (length (links_of (before ++ row ∷ []))) then Some (Links number)
     else None
 
 -- how many rows at the start are not examined

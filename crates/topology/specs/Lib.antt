@@ -4,4 +4,5 @@ pub mod Topology
 pub mod Faults
 pub mod Draft
 pub mod Monitors
+pub mod Choice
 pub mod Numbered

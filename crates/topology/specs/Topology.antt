@@ -1,6 +1,7 @@
 -- The topology that rows name: nodes and links, each numbered by first appearance.
 use Rattle.std.specs.Prelude.{ℕ, ◌≡◌, ◌≢◌, ◌≤◌, Bool, ◌==◌, ◌&&◌, List, [], ◌∷◌, length, map, All, AllPairs, IsTrue, bytes_eq}
 use Rattle.std.specs.List.{flat_map, position_or_len}
+use Rattle.tomo_base.specs.Limits.{link_limit, node_limit}
 use Rattle.tomo_base.specs.declared.graph.Link.{Link}
 use Rattle.tomo_base.specs.Network.{Network, IsGraph}
 use Rattle.tomo_base.specs.Table.{in_order}
@@ -55,8 +56,8 @@ pub record IsTopology (t : Topo) : Type 0 where
   pub graph : IsGraph t.graph
   pub connected : IsConnected t.graph
   pub some_nodes : 3 ≤ t.graph.nodes
-  pub few_nodes : t.graph.nodes ≤ 1000
-  pub few_links : length t.graph.links ≤ 4000
+  pub few_nodes : t.graph.nodes ≤ node_limit
+  pub few_links : length t.graph.links ≤ link_limit
   pub one_each : length t.names ≡ t.graph.nodes
   pub named : All (λ name. IsTrue (is_name name)) t.names
   pub different : AllPairs (λ x y. x ≢ y) t.names

@@ -1,5 +1,6 @@
 // What the rows so far name, while rows are read one by one.
 ghost use Rattle.std.specs.Prelude.{◌+◌, ◌^◌, ◌<◌, ◌≤◌, [], length, IfOk, IfErr, OnOk};
+ghost use Rattle.tomo_base.specs.Limits.{node_limit};
 ghost use Rattle.topology.specs.Draft.{IsDraftOf, LinksNames, HasOwnFault, TakesRow, RefusesRow, IsOfRow};
 ghost use Rattle.topology.specs.Faults.{AllFine, IsTopoFault, examined};
 ghost use Rattle.topology.specs.Names.{row_at};
@@ -10,10 +11,7 @@ use crate::links::Links;
 use crate::names::Names;
 use rows::Rows;
 use std::alloc::Global;
-
-const NODE_LIMIT: u32 = 1_000;
-
-const LINK_LIMIT: usize = 4_000;
+use tomo_base::{LINK_LIMIT, NODE_LIMIT};
 
 /// The names and the links of the rows so far.
 #[derive(Drop)]
@@ -60,7 +58,7 @@ impl Draft {
     fn add_row(&mut self, alloc: Global, rows: &Rows, place: u32) -> Result<(), TopoFault>
         requires place { place < length rows.now.closed }
         requires number { place + 1 < 2 ^ 32 }
-        requires few { length self.old.names ≤ 1000 }
+        requires few { length self.old.names ≤ node_limit }
         ensures takes { OnOk result (TakesRow rows.now.closed place
             self.old.names self.old.links self.new.names self.new.links) }
         ensures refuses { IfErr result (RefusesRow rows.now.closed place

@@ -18,10 +18,10 @@ pub enum TopoFault {
     /// The two names of the row are equal.
     #[error("row {0}: a link from a node to itself")]
     Loop(u32),
-    /// With this row there are more than 1,000 nodes.
+    /// With this row there are more nodes than `NODE_LIMIT`. The message takes no constant, so the number stands in it.
     #[error("row {0}: more than 1000 nodes")]
     Nodes(u32),
-    /// With this row there are more than 4,000 links.
+    /// With this row there are more links than `LINK_LIMIT`. The message takes no constant, so the number stands in it.
     #[error("row {0}: more than 4000 links")]
     Links(u32),
     /// There are fewer than three nodes, so many.
@@ -41,6 +41,26 @@ pub enum MonFault {
     /// The name in the row is the name of no node.
     #[error("row {0}: no node has this name")]
     Unknown(u32),
+}
+
+/// Why rows choose no nodes of a topology. Rows are numbered from 1.
+#[derive(Clone, Copy, Debug, PartialEq, Eq, Error)]
+pub enum ChoiceFault {
+    /// Memory was wanted and could not be had.
+    #[error("no memory")]
+    NoMemory,
+    /// The row has fewer than two fields.
+    #[error("row {0}: fewer than two fields")]
+    Width(u32),
+    /// The first field is neither `must` nor `not`.
+    #[error("row {0}: neither must nor not")]
+    Word(u32),
+    /// The name in the row is the name of no node.
+    #[error("row {0}: no node has this name")]
+    Unknown(u32),
+    /// An earlier row names the node by the other word.
+    #[error("row {0}: the node was named by the other word")]
+    Clash(u32),
 }
 
 impl From<WantOfMemory> for TopoFault {
@@ -73,5 +93,16 @@ impl From<WantOfMemory> for MonFault {
 
     fn from(_e: WantOfMemory) -> MonFault {
         MonFault::NoMemory
+    }
+}
+
+impl From<WantOfMemory> for ChoiceFault {
+    ghost use Rattle.std.specs.Prelude.{◌≡◌};
+    ghost use Rattle.topology.specs.declared.faults.ChoiceFault.TheVariants.{NoMemory};
+
+    ghost from_gives = { λ _ e. e ≡ NoMemory };
+
+    fn from(_e: WantOfMemory) -> ChoiceFault {
+        ChoiceFault::NoMemory
     }
 }

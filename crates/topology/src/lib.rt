@@ -1,6 +1,7 @@
 //! Topologies and monitors, read from rows.
 #![tactic(auto)]
 
+mod choice;
 mod draft;
 mod faults;
 mod fields;
@@ -10,7 +11,8 @@ mod names;
 mod naming;
 mod topology;
 
-pub use faults::{MonFault, TopoFault};
+pub use choice::{Choice, read_choice};
+pub use faults::{ChoiceFault, MonFault, TopoFault};
 pub use fields::as_name;
 pub use monitors::read_monitors;
 pub use naming::nth_name;

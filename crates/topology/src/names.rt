@@ -1,5 +1,6 @@
 // Names, numbered by first appearance.
 ghost use Rattle.std.specs.Prelude.{◌≡◌, ◌+◌, ◌^◌, ◌<◌, ◌≤◌, [], length, slice_index_or, position, bytes_eq, IfOk, OnOk, OnErr};
+ghost use Rattle.tomo_base.specs.Limits.{node_limit};
 ghost use Rattle.indexmap.specs.IndexSet.{insert_key};
 ghost use Rattle.topology.specs.Numbered as spec;
 ghost use Rattle.topology.specs.Topology.{node_of};
@@ -39,7 +40,7 @@ impl Names {
 
     /// The numbers below `n` in decimal, ascending.
     pub(crate) fn decimals(alloc: Global, n: u32) -> Result<Names, NoMemory>
-        requires { n ≤ 1000 }
+        requires { n ≤ node_limit }
         ensures { IfOk result (λ names. names ≡ spec.decimals n) }
     {
         let mut names = Names::new(alloc);

@@ -1,6 +1,7 @@
 // Topologies: connected graphs with a name for each node.
 ghost use Rattle.std.specs.Prelude.{◌≡◌, ◌<◌, ◌≤◌, ℕ, Some, length, slice_get, IfOk, IfErr, IfSome, IfNone, OnOk, bytes_eq, false};
 ghost use Rattle.std.specs.List.{list_any};
+ghost use Rattle.tomo_base.specs.Limits.{link_limit, node_limit};
 ghost use Rattle.tomo_base.specs.Network.{AreLinks};
 ghost use Rattle.tomo_base.specs.Walks.{IsConnected};
 ghost use Rattle.topology.specs.Draft.{IsDraft};
@@ -18,7 +19,7 @@ use std::alloc::Global;
 use std::marker::Model;
 use tomo_base::{Graph, GraphFault, Link, first_apart};
 
-/// A connected graph of 3 to 1,000 nodes and at most 4,000 links, whose nodes have different names of
+/// A connected graph of 3 to `NODE_LIMIT` nodes and at most `LINK_LIMIT` links, whose nodes have different names of
 /// 1 to 64 bytes of UTF-8 each.
 #[derive(Drop)]
 pub struct Topology {
@@ -42,8 +43,8 @@ impl Topology {
     pub fn numbered(alloc: Global, g: Graph) -> Result<Topology, Graph>
         requires connected { IsConnected g }
         requires some_nodes { 3 ≤ g.nodes }
-        requires few_nodes { g.nodes ≤ 1000 }
-        requires few_links { length g.links ≤ 4000 }
+        requires few_nodes { g.nodes ≤ node_limit }
+        requires few_links { length g.links ≤ link_limit }
         ensures topology { IfOk result (λ t. t ≡ spec.numbered g) }
         ensures handed_back { IfErr result (λ back. back ≡ g) }
     {
@@ -95,8 +96,8 @@ impl Topology {
 fn connected_graph(alloc: Global, nodes: u32, links: &[Link]) -> Result<Graph, TopoFault>
     requires links { AreLinks nodes links.now }
     requires some_nodes { 3 ≤ nodes }
-    requires few_nodes { nodes ≤ 1000 }
-    requires few_links { length links.now ≤ 4000 }
+    requires few_nodes { nodes ≤ node_limit }
+    requires few_links { length links.now ≤ link_limit }
     ensures graph { IfOk result (λ g. g ≡ record { nodes = nodes; links = links.now }) }
     ensures connected { IfOk result IsConnected }
     ensures fault { IfErr result (IsUnfit (record { nodes = nodes; links = links.now })) }

@@ -1,10 +1,11 @@
 // Graphs are tested for three-connectivity, and extended, where memory is ample.
-use crate::shapes::{CHORD, COMPLETE, PRISM, SHARING_A_PAIR, Shape, graph_of, lies_in, set_of};
+use crate::shapes::{CHORD, COMPLETE, PRISM, SHARING_A_PAIR, Shape, graph_of, lies_in};
 use extended_graph::{extend, three_connected_by_monitors};
+use samples::set_of;
 use std::alloc::Global;
 use std::test::Fail;
 use three_conn::{Conn, three_connected};
-use tomo_base::{Graph, Link, NoMemory};
+use tomo_base::{GRAPH_LINK_LIMIT, GRAPH_NODE_LIMIT, Graph, Link, NoMemory};
 
 // Whether the answer for the graph of a shape is a cut of these nodes, or, with none given, that it is three-connected.
 fn answers(alloc: Global, shape: &Shape, cut: Option<&[u32]>) -> Result<bool, Fail> {
@@ -27,12 +28,14 @@ fn a_triangle_has_few_nodes(rt: HostRuntime) -> Result<(), Fail> {
 }
 
 #[test]
-fn a_node_apart_needs_no_cut(rt: HostRuntime) -> Result<(), Fail> {
-    let links = [Link { a: 0, b: 1 }, Link { a: 2, b: 0 }];
+fn a_node_apart_is_parted_from_a_triangle(rt: HostRuntime) -> Result<(), Fail> {
+    let links = [
+        Link { a: 0, b: 1 },
+        Link { a: 1, b: 2 },
+        Link { a: 2, b: 0 },
+    ];
     let g = Graph::new(rt.alloc(), 4, &links)?;
-    assert!(rt;
-        matches!(three_connected(rt.alloc(), &g)?, Conn::Cut(cut) if cut.as_slice() == [].as_slice())
-    );
+    assert!(rt; matches!(three_connected(rt.alloc(), &g)?, Conn::Cut(cut) if !cut.has(3)));
     Ok(())
 }
 
@@ -56,8 +59,8 @@ fn what_parts_a_graph_is_told(rt: HostRuntime) -> Result<(), Fail> {
 fn extended_by(alloc: Global, g: &Graph, monitors: &[u32]) -> Result<Option<Graph>, NoMemory> {
     let set = set_of(alloc, monitors)?;
     if !lies_in(g, &set)
-        || g.nodes() > 9998
-        || g.links().len() + 2 * set.as_slice().len() > 20_000
+        || g.nodes() > GRAPH_NODE_LIMIT - 2
+        || g.links().len() + 2 * set.as_slice().len() > GRAPH_LINK_LIMIT
     {
         return Ok(None);
     }

@@ -2,14 +2,15 @@
 ghost use Rattle.std.specs.Prelude.{◌≤◌, ◌<◌, All};
 ghost use Rattle.tomo_base.specs.Walks.{IsConnected};
 
-use crate::shapes::{SHARING_A_PAIR, STAR, Shape, lies_in, network_of, set_of};
+use crate::shapes::{SHARING_A_PAIR, STAR, Shape, lies_in, network_of};
 use drill::generate;
 use extended_graph::extend;
 use judge::{Verdict, judge};
+use samples::set_of;
 use std::alloc::Global;
 use std::test::Fail;
 use three_conn::{Conn, three_connected};
-use tomo_base::{Graph, NoMemory, NodeSet};
+use tomo_base::{GRAPH_LINK_LIMIT, GRAPH_NODE_LIMIT, Graph, NoMemory, NodeSet};
 use unit_flow::{Fanned, fan};
 
 // The bad set of the monitors of a shape, or no node where they identify.
@@ -66,7 +67,9 @@ fn have_fans(alloc: Global, g: &Graph, m: &NodeSet) -> Result<bool, NoMemory>
 fn extends_well(alloc: Global, g: &Graph, m: &NodeSet) -> Result<bool, NoMemory>
     requires { All (λ v. v < g.now.nodes) m.now }
 {
-    if g.nodes() > 9998 || g.links().len() + 2 * m.as_slice().len() > 20_000 {
+    if g.nodes() > GRAPH_NODE_LIMIT - 2
+        || g.links().len() + 2 * m.as_slice().len() > GRAPH_LINK_LIMIT
+    {
         return Ok(false);
     }
     let wide = extend(alloc, g, m)?;

@@ -4,7 +4,7 @@ ghost use Rattle.tomo_base.specs.Walks.{IsConnected};
 
 use std::alloc::{AllocError, Global};
 use std::test::Fail;
-use tomo_base::{Graph, Link, NoMemory, NodeSet, NodeSets, first_apart};
+use tomo_base::{GRAPH_LINK_LIMIT, GRAPH_NODE_LIMIT, Graph, Link, NodeSet, NodeSets, first_apart};
 
 #[derive(Clone, Copy)]
 pub struct Shape {
@@ -143,7 +143,7 @@ pub fn graph_of(alloc: Global, shape: &Shape) -> Result<Option<Graph>, Fail> {
     for group in shape.groups {
         link_all(&mut links, group)?;
     }
-    if shape.count > 10_000 || links.len() > 20_000 {
+    if shape.count > GRAPH_NODE_LIMIT || links.len() > GRAPH_LINK_LIMIT {
         return Ok(None);
     }
     Ok(Graph::new(alloc, shape.count, &links).ok())
@@ -161,15 +161,6 @@ pub fn network_of(alloc: Global, shape: &Shape) -> Result<Option<Graph>, Fail>
         return Ok(None);
     }
     Ok(Some(g))
-}
-
-// The set of some of the first ten nodes.
-pub fn set_of(alloc: Global, nodes: &[u32]) -> Result<NodeSet, NoMemory> {
-    let mut set = NodeSet::new(alloc);
-    for &v in nodes {
-        set.insert(v % 10)?;
-    }
-    Ok(set)
 }
 
 // Whether the set lies in the graph.

@@ -2,19 +2,11 @@
 ghost use Rattle.std.specs.Prelude.{◌≡◌, ◌<◌, IsTrue, All, IfOk, IfSome, false};
 ghost use Rattle.tomo_base.specs.Sets.{has};
 
+use samples::{graph_with, set_of};
 use std::alloc::Global;
 use std::test::Fail;
-use tomo_base::{Graph, Link, NoMemory, NodeSet};
+use tomo_base::{Graph, NoMemory, NodeSet};
 use unit_flow::{Fanned, Flow, Widened, fan, others};
-
-// The set of some of the first ten nodes.
-fn set_of(alloc: Global, nodes: &[u32]) -> Result<NodeSet, NoMemory> {
-    let mut set = NodeSet::new(alloc);
-    for &node in nodes {
-        set.insert(node % 10)?;
-    }
-    Ok(set)
-}
 
 // Whether the set lies in the graph, and the source is not in it.
 fn fits(g: &Graph, source: u32, set: &NodeSet) -> bool
@@ -93,35 +85,35 @@ fn fan_comes_to(
 }
 
 // Each two of five nodes are linked; the first six links join each two of the first four.
-const LINKED: [Link; 10] = [
-    Link { a: 0, b: 1 },
-    Link { a: 0, b: 2 },
-    Link { a: 1, b: 2 },
-    Link { a: 0, b: 3 },
-    Link { a: 1, b: 3 },
-    Link { a: 2, b: 3 },
-    Link { a: 0, b: 4 },
-    Link { a: 1, b: 4 },
-    Link { a: 2, b: 4 },
-    Link { a: 3, b: 4 },
+const LINKED: [(u32, u32); 10] = [
+    (0, 1),
+    (0, 2),
+    (1, 2),
+    (0, 3),
+    (1, 3),
+    (2, 3),
+    (0, 4),
+    (1, 4),
+    (2, 4),
+    (3, 4),
 ];
 
 // The shortest way from 0 to the nodes 5 and 6 goes over 1 and 4, and leaves no second one.
-const DETOUR: [Link; 8] = [
-    Link { a: 0, b: 1 },
-    Link { a: 0, b: 2 },
-    Link { a: 1, b: 3 },
-    Link { a: 1, b: 4 },
-    Link { a: 2, b: 4 },
-    Link { a: 3, b: 7 },
-    Link { a: 4, b: 6 },
-    Link { a: 5, b: 7 },
+const DETOUR: [(u32, u32); 8] = [
+    (0, 1),
+    (0, 2),
+    (1, 3),
+    (1, 4),
+    (2, 4),
+    (3, 7),
+    (4, 6),
+    (5, 7),
 ];
 
 #[test]
 fn four_nodes_give_three_paths_and_no_fourth(rt: HostRuntime) -> Result<(), Fail> {
     let alloc = rt.alloc();
-    let g = Graph::new(alloc, 4, &LINKED[..6])?;
+    let g = graph_with(alloc, 4, &LINKED[..6])?;
     let paths = [[0, 1].as_slice(), &[0, 2], &[0, 3]];
     assert!(rt; comes_to(alloc, &g, &[1, 2, 3], &[], &[0], &paths)?);
     Ok(())
@@ -130,7 +122,7 @@ fn four_nodes_give_three_paths_and_no_fourth(rt: HostRuntime) -> Result<(), Fail
 #[test]
 fn a_path_is_led_another_way(rt: HostRuntime) -> Result<(), Fail> {
     let alloc = rt.alloc();
-    let g = Graph::new(alloc, 8, &DETOUR)?;
+    let g = graph_with(alloc, 8, &DETOUR)?;
     let paths = [[0, 1, 3, 7, 5].as_slice(), &[0, 2, 4, 6]];
     assert!(rt; comes_to(alloc, &g, &[5, 6], &[], &[0], &paths)?);
     Ok(())
@@ -139,7 +131,7 @@ fn a_path_is_led_another_way(rt: HostRuntime) -> Result<(), Fail> {
 #[test]
 fn banned_nodes_leave_two_paths_or_one(rt: HostRuntime) -> Result<(), Fail> {
     let alloc = rt.alloc();
-    let g = Graph::new(alloc, 5, &LINKED)?;
+    let g = graph_with(alloc, 5, &LINKED)?;
     let two = [[0, 3].as_slice(), &[0, 4]];
     assert!(rt; comes_to(alloc, &g, &[3, 4], &[1], &[0, 2], &two)?);
     let one = [[0, 3].as_slice()];
@@ -150,7 +142,7 @@ fn banned_nodes_leave_two_paths_or_one(rt: HostRuntime) -> Result<(), Fail> {
 #[test]
 fn a_fan_needs_three_targets(rt: HostRuntime) -> Result<(), Fail> {
     let alloc = rt.alloc();
-    let g = Graph::new(alloc, 5, &LINKED)?;
+    let g = graph_with(alloc, 5, &LINKED)?;
     assert!(rt; fan_comes_to(alloc, &g, &[2, 3, 4], None)?);
     assert!(rt; fan_comes_to(alloc, &g, &[3, 4], Some(&[0, 1, 2]))?);
     Ok(())

@@ -1,5 +1,5 @@
 // Small graphs and sets, where memory is ample.
-use std::alloc::Global;
+use samples::set_of;
 use std::test::Fail;
 use tomo_base::{
     Graph, GraphFault, Link, NodeSet, NodeSets, Pocket, Pockets, Words, first_apart, need, sweep,
@@ -10,15 +10,6 @@ const CHAIN: [Link; 3] = [
     Link { a: 2, b: 1 },
     Link { a: 2, b: 3 },
 ];
-
-// The set of some of the first ten nodes.
-fn set_of(alloc: Global, nodes: &[u32]) -> Result<NodeSet, Fail> {
-    let mut set = NodeSet::new(alloc);
-    for &v in nodes {
-        set.insert(v % 10)?;
-    }
-    Ok(set)
-}
 
 #[test]
 fn links_of_a_chain_are_found(rt: HostRuntime) -> Result<(), Fail> {

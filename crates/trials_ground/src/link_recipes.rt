@@ -5,20 +5,12 @@ ghost use Rattle.tomo_base.specs.Identify.{Identifies};
 ghost use Rattle.tomo_base.specs.BadParts.{IsCutOff};
 
 use cross_links::recipe;
+use samples::{graph_with, set_of};
 use simple_path::{PathPool, Recipe};
 use std::alloc::Global;
 use std::test::Fail;
 use tomo_base::{Graph, Link, NoMemory, NodeSet, first_apart};
 use unit_flow::{Fanned, fan};
-
-// The set of some of the first ten nodes.
-fn set_of(alloc: Global, nodes: &[u32]) -> Result<NodeSet, NoMemory> {
-    let mut set = NodeSet::new(alloc);
-    for &node in nodes {
-        set.insert(node % 10)?;
-    }
-    Ok(set)
-}
 
 // Whether the node has three paths to monitors, so that no two nodes cut it off.
 fn has_fan(alloc: Global, g: &Graph, v: u32, m: &NodeSet) -> Result<bool, NoMemory>
@@ -98,44 +90,29 @@ fn comes_to(
 }
 
 // The first three links are a star, the first six join each two of four nodes.
-const LINKED: [Link; 6] = [
-    Link { a: 0, b: 1 },
-    Link { a: 0, b: 2 },
-    Link { a: 0, b: 3 },
-    Link { a: 1, b: 2 },
-    Link { a: 1, b: 3 },
-    Link { a: 2, b: 3 },
-];
+const LINKED: [(u32, u32); 6] = [(0, 1), (0, 2), (0, 3), (1, 2), (1, 3), (2, 3)];
 
 // Two triangles, and a link between them.
-const TRIANGLES: [Link; 7] = [
-    Link { a: 0, b: 1 },
-    Link { a: 0, b: 2 },
-    Link { a: 1, b: 2 },
-    Link { a: 2, b: 3 },
-    Link { a: 3, b: 4 },
-    Link { a: 3, b: 5 },
-    Link { a: 4, b: 5 },
-];
+const TRIANGLES: [(u32, u32); 7] = [(0, 1), (0, 2), (1, 2), (2, 3), (3, 4), (3, 5), (4, 5)];
 
 // A ladder of four rungs.
-const LADDER: [Link; 10] = [
-    Link { a: 0, b: 1 },
-    Link { a: 2, b: 3 },
-    Link { a: 4, b: 5 },
-    Link { a: 6, b: 7 },
-    Link { a: 0, b: 2 },
-    Link { a: 2, b: 4 },
-    Link { a: 4, b: 6 },
-    Link { a: 1, b: 3 },
-    Link { a: 3, b: 5 },
-    Link { a: 5, b: 7 },
+const LADDER: [(u32, u32); 10] = [
+    (0, 1),
+    (2, 3),
+    (4, 5),
+    (6, 7),
+    (0, 2),
+    (2, 4),
+    (4, 6),
+    (1, 3),
+    (3, 5),
+    (5, 7),
 ];
 
 #[test]
 fn a_link_between_monitors_is_a_path(rt: HostRuntime) -> Result<(), Fail> {
     let alloc = rt.alloc();
-    let g = Graph::new(alloc, 4, &LINKED)?;
+    let g = graph_with(alloc, 4, &LINKED)?;
     for link in 0..6u32 {
         assert!(rt; comes_to(alloc, &g, &[0, 1, 2, 3], link, &[2])?);
     }
@@ -145,7 +122,7 @@ fn a_link_between_monitors_is_a_path(rt: HostRuntime) -> Result<(), Fail> {
 #[test]
 fn a_link_of_a_star_has_three_paths(rt: HostRuntime) -> Result<(), Fail> {
     let alloc = rt.alloc();
-    let g = Graph::new(alloc, 4, &LINKED[..3])?;
+    let g = graph_with(alloc, 4, &LINKED[..3])?;
     for link in 0..3u32 {
         assert!(rt; comes_to(alloc, &g, &[1, 2, 3], link, &[1, 1, -1])?);
     }
@@ -155,7 +132,7 @@ fn a_link_of_a_star_has_three_paths(rt: HostRuntime) -> Result<(), Fail> {
 #[test]
 fn a_link_between_triangles_has_four_paths(rt: HostRuntime) -> Result<(), Fail> {
     let alloc = rt.alloc();
-    let g = Graph::new(alloc, 6, &TRIANGLES)?;
+    let g = graph_with(alloc, 6, &TRIANGLES)?;
     let monitors = [0, 1, 4, 5];
     assert!(rt; comes_to(alloc, &g, &monitors, 3, &[1, 1, -1, -1])?);
     assert!(rt; comes_to(alloc, &g, &monitors, 5, &[1, 1, -1])?);
@@ -165,7 +142,7 @@ fn a_link_between_triangles_has_four_paths(rt: HostRuntime) -> Result<(), Fail> 
 #[test]
 fn a_way_is_led_on_in_a_ladder(rt: HostRuntime) -> Result<(), Fail> {
     let alloc = rt.alloc();
-    let g = Graph::new(alloc, 8, &LADDER)?;
+    let g = graph_with(alloc, 8, &LADDER)?;
     for link in [1, 2, 5, 8] {
         assert!(rt; comes_to(alloc, &g, &[0, 1, 6, 7], link, &[1, 1, -1, -1])?);
     }

@@ -2,7 +2,9 @@ use rows::read_rows;
 use std::alloc::Global;
 use std::test::Fail;
 use tomo_base::{Graph, Link, first_apart};
-use topology::{MonFault, TopoFault, Topology, read_monitors, read_topology};
+use topology::{
+    ChoiceFault, MonFault, TopoFault, Topology, read_choice, read_monitors, read_topology,
+};
 
 // A field of 64 bytes, and one more.
 const LONG: &[u8] = b"0123456789012345678901234567890123456789012345678901234567890123,b\nb,c\n";
@@ -178,6 +180,27 @@ fn monitors_of_a_star_are_read(rt: HostRuntime) -> Result<(), Fail> {
         assert!(rt; text.len() < 100);
         let refused = read_monitors(alloc, &t, &read_rows(alloc, text)?);
         assert!(rt; refused.err() == Some(MonFault::Unknown(row)));
+    }
+    Ok(())
+}
+
+#[test]
+fn a_choice_of_a_star_is_read(rt: HostRuntime) -> Result<(), Fail> {
+    let alloc = rt.alloc();
+    let t = read_topology(alloc, &read_rows(alloc, b"c,x\nc,y\nc,z\n")?, false)?;
+    let rows = read_rows(alloc, b"not,z\n must ,\tx,q\nmust,c\nmust,x\n")?;
+    let choice = read_choice(alloc, &t, &rows)?;
+    assert!(rt; choice.must.as_slice() == [0, 1].as_slice());
+    assert!(rt; choice.not.as_slice() == [3].as_slice());
+    for (text, fault) in [
+        (b"must\n".as_slice(), ChoiceFault::Width(1)),
+        (b"must,x\n Must,y\n", ChoiceFault::Word(2)),
+        (b"not,q\nmust\n", ChoiceFault::Unknown(1)),
+        (b"not,x\nnot,y\nmust,y\n", ChoiceFault::Clash(3)),
+    ] {
+        assert!(rt; text.len() < 100);
+        let refused = read_choice(alloc, &t, &read_rows(alloc, text)?);
+        assert!(rt; refused.err() == Some(fault));
     }
     Ok(())
 }

@@ -1,43 +1,23 @@
 // Plans are checked where memory is ample.
 ghost use Rattle.std.specs.Prelude.{◌<◌, ◌^◌, length};
 
-use crate::small::{JOINED_TRIANGLES, topology_of};
+use crate::small::topology_of;
 use cert_check::{Fault, Report, check};
 use drop_place::place;
 use plan_form::read_plan;
-use planner::{cross_plan_for, make_plan, plan_for};
+use planner::{make_plan, plan_for};
 use rows::read_rows;
+use samples::{TRIANGLES, TWO_LINKS, TWO_LINKS_PLAN, with_row};
 use std::alloc::Global;
 use std::test::Fail;
 use tomo_base::NoMemory;
 use topology::Topology;
 
-// The plan of two links.
-const TWO_LINKS: [&[u8]; 17] = [
-    b"plan,1",
-    b"node,0,a",
-    b"node,1,b",
-    b"node,2,c",
-    b"link,0,0,1",
-    b"link,1,1,2",
-    b"monitor,0",
-    b"monitor,1",
-    b"monitor,2",
-    b"pocket,0,1,0",
-    b"pocket,1,1,1",
-    b"pocket,2,1,2",
-    b"path,0,0 1",
-    b"path,1,1 2",
-    b"recipe,0,2:0",
-    b"recipe,1,2:1",
-    b"end",
-];
-
 // What the plan of two triangles joined by a link comes to for the topology with these rows.
 fn report_of(alloc: Global, text: &[u8]) -> Result<Report, Fail>
     requires { length text.now < 2 ^ 31 }
 {
-    let joined = topology_of(alloc, JOINED_TRIANGLES)?;
+    let joined = topology_of(alloc, TRIANGLES)?;
     let plan = make_plan(alloc, &joined)?;
     let topology = topology_of(alloc, text)?;
     Ok(check(alloc, &topology, &plan)?)
@@ -45,7 +25,7 @@ fn report_of(alloc: Global, text: &[u8]) -> Result<Report, Fail>
 
 #[test]
 fn a_plan_is_good_for_its_topology(rt: HostRuntime) -> Result<(), Fail> {
-    let report = report_of(rt.alloc(), JOINED_TRIANGLES)?;
+    let report = report_of(rt.alloc(), TRIANGLES)?;
     let good = Report::Good {
         monitors: 4,
         bound: 4,
@@ -68,23 +48,13 @@ fn it_has_other_links_than_another(rt: HostRuntime) -> Result<(), Fail> {
     Ok(())
 }
 
-// The text of the plan of two links with another row in place of the one with a number, counted from 1.
-fn with_row(alloc: Global, number: usize, row: &[u8]) -> Result<Vec<u8>, NoMemory> {
-    let mut text = Vec::new(alloc);
-    for (i, line) in TWO_LINKS.iter().enumerate() {
-        text.extend_from_slice(if i + 1 == number { row } else { line })?;
-        text.push(b'\n')?;
-    }
-    Ok(text)
-}
-
 // What the plan in a short text comes to for the topology of two links, if it is a plan.
 fn report_of_text(alloc: Global, text: &[u8]) -> Result<Option<Report>, Fail>
     requires { length text.now < 10000 }
 {
     rows::laws::fields_are_no_longer_than_their_text();
     let rows = read_rows(alloc, text)?;
-    let topology = topology_of(alloc, b"a,b\nb,c\n")?;
+    let topology = topology_of(alloc, TWO_LINKS)?;
     match read_plan(alloc, &rows) {
         Ok(plan) => Ok(Some(check(alloc, &topology, &plan)?)),
         Err(_) => Ok(None),
@@ -110,7 +80,58 @@ fn one_changed_row_is_a_fault(rt: HostRuntime) -> Result<(), Fail> {
         (15, b"recipe,0,2:1", Report::Bad(Fault::Recipe(0))),
         (16, b"recipe,1,2:2", Report::Bad(Fault::Recipe(1))),
     ] {
-        let text = with_row(alloc, number, row)?;
+        let text = with_row(alloc, TWO_LINKS_PLAN, number, row)?;
+        assert!(rt; text.len() < 10_000);
+        assert!(rt; report_of_text(alloc, &text)? == Some(report));
+    }
+    Ok(())
+}
+
+// The text of a plan of format 2 of two links, with these rows for the choice, the monitors and the pockets.
+fn chosen_text(
+    alloc: Global,
+    choice: &[u8],
+    monitors: &[u8],
+    pockets: &[u8],
+) -> Result<Vec<u8>, NoMemory> {
+    let mut text = Vec::new(alloc);
+    for part in [
+        b"plan,2\nnode,0,a\nnode,1,b\nnode,2,c\nlink,0,0,1\nlink,1,1,2\n".as_slice(),
+        choice,
+        monitors,
+        pockets,
+        b"path,0,0 1\npath,1,1 2\nrecipe,0,2:0\nrecipe,1,2:1\nend\n",
+    ] {
+        text.extend_from_slice(part)?;
+    }
+    Ok(text)
+}
+
+const ALL: &[u8] = b"monitor,0\nmonitor,1\nmonitor,2\n";
+
+const ENDS: &[u8] = b"monitor,0\nmonitor,2\n";
+
+const POCKETS: &[u8] = b"pocket,0,1,0\npocket,1,1,2\n";
+
+#[test]
+fn forced_and_barred_nodes_are_checked(rt: HostRuntime) -> Result<(), Fail> {
+    let alloc = rt.alloc();
+    let good = Report::Good {
+        monitors: 3,
+        bound: 3,
+    };
+    for (choice, monitors, report) in [
+        (b"must,1\n".as_slice(), ALL, good),
+        (b"must,0\nmust,1\n", ALL, Report::Bad(Fault::Pocket(0))),
+        (b"must,1\nmust,1\n", ALL, Report::Bad(Fault::Must(1))),
+        (b"must,3\n", ALL, Report::Bad(Fault::Must(0))),
+        (b"must,1\n", ENDS, Report::Bad(Fault::Must(0))),
+        (b"not,3\n", ALL, Report::Bad(Fault::Not(0))),
+        (b"must,1\nnot,1\n", ALL, Report::Bad(Fault::Not(0))),
+        (b"not,1\nnot,1\n", ENDS, Report::Bad(Fault::Not(1))),
+        (b"not,1\n", ENDS, Report::Bad(Fault::Path(0))),
+    ] {
+        let text = chosen_text(alloc, choice, monitors, POCKETS)?;
         assert!(rt; text.len() < 10_000);
         assert!(rt; report_of_text(alloc, &text)? == Some(report));
     }
@@ -142,12 +163,11 @@ fn complete(alloc: Global) -> Result<String, Fail> {
     Ok(text)
 }
 
-// What the two plans for the lowest set of monitors come to: over trees, and of at most four paths a link.
-fn reports_of_lowest(alloc: Global, t: &Topology) -> Result<[Report; 2], Fail> {
+// What the plan for the lowest set of monitors comes to.
+fn report_of_lowest(alloc: Global, t: &Topology) -> Result<Report, Fail> {
     let monitors = place(alloc, t.graph())?;
-    let by_trees = plan_for(alloc, t, &monitors)?;
-    let crossed = cross_plan_for(alloc, t, &monitors)?;
-    Ok([check(alloc, t, &by_trees)?, check(alloc, t, &crossed)?])
+    let plan = plan_for(alloc, t, &monitors)?;
+    Ok(check(alloc, t, &plan)?)
 }
 
 // Of a grid's nodes only the four corners have two neighbours, and of a complete graph's nodes any three serve.
@@ -158,7 +178,7 @@ fn plans_of_large_graphs_are_good(rt: HostRuntime) -> Result<(), Fail> {
         assert!(rt; text.len() < 100_000);
         let topology = topology_of(alloc, text.as_bytes())?;
         let good = Report::Good { monitors, bound: 0 };
-        assert!(rt; reports_of_lowest(alloc, &topology)? == [good; 2]);
+        assert!(rt; report_of_lowest(alloc, &topology)? == good);
     }
     Ok(())
 }

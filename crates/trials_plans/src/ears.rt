@@ -4,8 +4,9 @@ ghost use Rattle.tomo_base.specs.Network.{linked};
 ghost use Rattle.tomo_base.specs.Cuts.{IsThreeConnected};
 ghost use Rattle.ear_order.specs.Ears.{AreEnds};
 
-use crate::small::{COMPLETE, PRISM, topology_of};
+use crate::small::{PRISM, topology_of};
 use ear_order::{EarOrder, Step, order};
+use samples::COMPLETE;
 use std::alloc::Global;
 use std::test::Fail;
 use three_conn::{Conn, three_connected};

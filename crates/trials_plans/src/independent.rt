@@ -3,9 +3,10 @@ ghost use Rattle.std.specs.Prelude.{◌≡◌, ◌<◌, ◌^◌, length, IfOk};
 ghost use Rattle.topology.specs.Topology.{IsTopology};
 ghost use Rattle.indep_trees.specs.Trees.{AreTrees};
 
-use crate::small::{PRISM, STAR, topology_of};
+use crate::small::{PRISM, topology_of};
 use indep_trees::{IndepTrees, trees};
 use mmp_place::mmp;
+use samples::STAR;
 use std::alloc::Global;
 use std::test::Fail;
 use tomo_base::{Graph, NoMemory, NodeSet};

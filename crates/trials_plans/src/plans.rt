@@ -1,9 +1,10 @@
 // Plans are made where memory is ample.
 ghost use Rattle.std.specs.Prelude.{◌<◌, ◌^◌, length};
 
-use crate::small::{CHAIN, JOINED_TRIANGLES, STAR, topology_of};
+use crate::small::{CHAIN, topology_of};
 use plan_form::Plan;
 use planner::make_plan;
+use samples::{STAR, TRIANGLES};
 use std::alloc::Global;
 use std::test::Fail;
 
@@ -37,7 +38,7 @@ fn a_star_is_planned(rt: HostRuntime) -> Result<(), Fail> {
 
 #[test]
 fn two_triangles_joined_by_a_link_are_planned(rt: HostRuntime) -> Result<(), Fail> {
-    let plan = plan_of(rt.alloc(), JOINED_TRIANGLES)?;
+    let plan = plan_of(rt.alloc(), TRIANGLES)?;
     assert!(rt; plan.monitors() == [0, 1, 4, 5].as_slice());
     assert!(rt; plan.pocket_count() == 4);
     assert!(rt; plan.paths().len() == 7);

@@ -8,12 +8,6 @@ use topology::{Topology, read_topology};
 
 pub const CHAIN: &[u8] = b"b,a\nb,c\n";
 
-pub const STAR: &[u8] = b"c,x\nc,y\nc,z\n";
-
-pub const JOINED_TRIANGLES: &[u8] = b"a,b\na,c\nb,c\nc,d\nd,e\nd,f\ne,f\n";
-
-pub const COMPLETE: &[u8] = b"a,b\na,c\na,d\nb,c\nb,d\nc,d\n";
-
 pub const PRISM: &[u8] = b"a,b\na,c\nb,c\nd,e\nd,f\ne,f\na,d\nb,e\nc,f\n";
 
 /// The topology with these rows.

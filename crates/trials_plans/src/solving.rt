@@ -1,9 +1,10 @@
 // Rounds over small plans that are made are solved where memory is ample.
 ghost use Rattle.std.specs.Prelude.{◌<◌, ◌^◌, length};
 
-use crate::small::{JOINED_TRIANGLES, STAR, topology_of};
+use crate::small::topology_of;
 use link_solver::{Answer, Delays, Why, solve_into};
 use planner::make_plan;
+use samples::{STAR, TRIANGLES};
 use std::alloc::Global;
 use std::test::Fail;
 
@@ -72,7 +73,7 @@ fn drawn(alloc: Global, seed: u32) -> Result<Option<Answer>, Fail> {
         even(seed, 5),
         even(seed, 6),
     ];
-    let found = round(alloc, JOINED_TRIANGLES, &sums)?;
+    let found = round(alloc, TRIANGLES, &sums)?;
     Ok(found.map(|(answer, _)| answer))
 }
 

@@ -4,85 +4,10 @@ ghost use Rattle.rows.specs.Rows.{byte_count};
 
 use plan_form::{PlanFault, plan_rows, read_plan};
 use rows::{Rows, print_rows, read_rows};
+use samples::{COMPLETE_PLAN, STAR_PLAN, TWO_LINKS_PLAN, with_row};
 use std::alloc::Global;
 use std::test::Fail;
 use tomo_base::NoMemory;
-
-// The plan of two links.
-const TWO_LINKS: [&[u8]; 17] = [
-    b"plan,1",
-    b"node,0,a",
-    b"node,1,b",
-    b"node,2,c",
-    b"link,0,0,1",
-    b"link,1,1,2",
-    b"monitor,0",
-    b"monitor,1",
-    b"monitor,2",
-    b"pocket,0,1,0",
-    b"pocket,1,1,1",
-    b"pocket,2,1,2",
-    b"path,0,0 1",
-    b"path,1,1 2",
-    b"recipe,0,2:0",
-    b"recipe,1,2:1",
-    b"end",
-];
-
-// The plan of a star with three leaves.
-const STAR: &[u8] = b"plan,1
-node,0,c
-node,1,x
-node,2,y
-node,3,z
-link,0,0,1
-link,1,0,2
-link,2,0,3
-monitor,1
-monitor,2
-monitor,3
-pocket,0,1,1
-pocket,1,1,2
-pocket,2,1,3
-path,0,1 0 2
-path,1,1 0 3
-path,2,2 0 3
-recipe,0,1:0 1:1 -1:2
-recipe,1,1:0 -1:1 1:2
-recipe,2,-1:0 1:1 1:2
-end
-";
-
-// The plan of four nodes of which each two are linked.
-const FOUR_LINKED: &[u8] = b"plan,1
-node,0,a
-node,1,b
-node,2,c
-node,3,d
-link,0,0,1
-link,1,0,2
-link,2,0,3
-link,3,1,2
-link,4,1,3
-link,5,2,3
-monitor,0
-monitor,1
-monitor,2
-pocket,0,3,0 1 2 3
-path,0,0 1
-path,1,0 2
-path,2,0 3 1
-path,3,0 3 2
-path,4,1 2
-path,5,1 3 2
-recipe,0,2:0
-recipe,1,2:1
-recipe,2,1:2 1:3 -1:5
-recipe,3,2:4
-recipe,4,1:2 -1:3 1:5
-recipe,5,-1:2 1:3 1:5
-end
-";
 
 const NAME_OF_64_BYTES: &[u8] =
     b"node,0,0123456789012345678901234567890123456789012345678901234567890123";
@@ -105,16 +30,6 @@ fn rows_of(alloc: Global, text: &[u8]) -> Result<Rows, NoMemory>
     read_rows(alloc, text)
 }
 
-// The text of the plan of two links with another row in place of the one with a number, counted from 1.
-fn with_row(alloc: Global, number: usize, row: &[u8]) -> Result<Vec<u8>, NoMemory> {
-    let mut text = Vec::new(alloc);
-    for (i, line) in TWO_LINKS.iter().enumerate() {
-        text.extend_from_slice(if i + 1 == number { row } else { line })?;
-        text.push(b'\n')?;
-    }
-    Ok(text)
-}
-
 // The text of the plan that a short text is read as.
 fn read_and_printed(alloc: Global, text: &[u8]) -> Result<Vec<u8>, PlanFault>
     requires { length text.now < 10000 }
@@ -129,11 +44,16 @@ fn read_and_printed(alloc: Global, text: &[u8]) -> Result<Vec<u8>, PlanFault>
 #[test]
 fn plans_are_read_and_printed(rt: HostRuntime) -> Result<(), Fail> {
     let alloc = rt.alloc();
-    let two_links = with_row(alloc, 0, b"")?;
-    for text in [STAR, FOUR_LINKED, two_links.as_slice()] {
+    let older = with_row(alloc, TWO_LINKS_PLAN, 1, b"plan,1")?;
+    for (text, wanted) in [
+        (STAR_PLAN, STAR_PLAN),
+        (COMPLETE_PLAN, COMPLETE_PLAN),
+        (TWO_LINKS_PLAN, TWO_LINKS_PLAN),
+        (older.as_slice(), TWO_LINKS_PLAN),
+    ] {
         assert!(rt; text.len() < 10_000);
         match read_and_printed(alloc, text) {
-            Ok(printed) => assert!(rt; printed.as_slice() == text),
+            Ok(printed) => assert!(rt; printed.as_slice() == wanted),
             Err(_) => assert!(rt; false),
         }
     }
@@ -143,12 +63,18 @@ fn plans_are_read_and_printed(rt: HostRuntime) -> Result<(), Fail> {
 #[test]
 fn the_first_fault_is_answered(rt: HostRuntime) -> Result<(), Fail> {
     let alloc = rt.alloc();
+    let older = with_row(alloc, TWO_LINKS_PLAN, 1, b"plan,1")?;
     for (number, row, fault) in [
         (2, b"nodes,0,a".as_slice(), Some(PlanFault::Record(2))),
         (2, b"node,0,a,b", Some(PlanFault::Record(2))),
         (13, b"path,0", Some(PlanFault::Record(13))),
         (17, b"end,1", Some(PlanFault::Record(17))),
-        (1, b"plan,2", Some(PlanFault::Record(1))),
+        (1, b"plan,2", None),
+        (1, b"plan,3", Some(PlanFault::Record(1))),
+        (1, b"plan,02", Some(PlanFault::Record(1))),
+        (7, b"must,0", Some(PlanFault::Record(7))),
+        (7, b"not,0", Some(PlanFault::Record(7))),
+        (1, b"must,0", Some(PlanFault::Record(1))),
         (2, b"node,0,", Some(PlanFault::Record(2))),
         (2, b"node,0,\xff", Some(PlanFault::Record(2))),
         (2, NAME_OF_64_BYTES, None),
@@ -156,6 +82,7 @@ fn the_first_fault_is_answered(rt: HostRuntime) -> Result<(), Fail> {
         (7, b"plan,1,0", Some(PlanFault::Record(7))),
         (1, b"node,0,a", Some(PlanFault::Order(1))),
         (2, b"plan,1", Some(PlanFault::Order(2))),
+        (2, b"plan,2", Some(PlanFault::Order(2))),
         (7, b"node,x,d", Some(PlanFault::Order(7))),
         (5, b"link,00,0,1", Some(PlanFault::Number(5))),
         (5, b"link,0,+0,1", Some(PlanFault::Number(5))),
@@ -190,7 +117,7 @@ fn the_first_fault_is_answered(rt: HostRuntime) -> Result<(), Fail> {
         (17, b"recipe,2,2:1", Some(PlanFault::Missing(17))),
         (17, b"", Some(PlanFault::Missing(16))),
     ] {
-        let text = with_row(alloc, number, row)?;
+        let text = with_row(alloc, &older, number, row)?;
         assert!(rt; text.len() < 10_000);
         let rows = rows_of(alloc, &text)?;
         let read = read_plan(alloc, &rows);
@@ -198,5 +125,37 @@ fn the_first_fault_is_answered(rt: HostRuntime) -> Result<(), Fail> {
     }
     let rows = rows_of(alloc, b"")?;
     assert!(rt; read_plan(alloc, &rows).err() == Some(PlanFault::Missing(0)));
+    Ok(())
+}
+
+// The text of a plan of format 2 with one link, with these rows in place of a choice.
+fn with_choice(alloc: Global, choice: &[u8]) -> Result<Vec<u8>, NoMemory> {
+    let mut text = Vec::new(alloc);
+    for part in [
+        b"plan,2\nnode,0,a\nlink,0,0,1\n".as_slice(),
+        choice,
+        b"monitor,0\nend\n",
+    ] {
+        text.extend_from_slice(part)?;
+    }
+    Ok(text)
+}
+
+#[test]
+fn forced_and_barred_nodes_are_read(rt: HostRuntime) -> Result<(), Fail> {
+    let alloc = rt.alloc();
+    for (choice, fault) in [
+        (b"must,1\nmust,0\nnot,4294967295\n".as_slice(), None),
+        (b"not,0\nmust,1\n", Some(PlanFault::Order(5))),
+        (b"must,x\n", Some(PlanFault::Number(4))),
+        (b"must,0,1\n", Some(PlanFault::Record(4))),
+        (b"not,0\nplan,1\n", Some(PlanFault::Order(5))),
+        (b"not,00\n", Some(PlanFault::Number(4))),
+    ] {
+        let text = with_choice(alloc, choice)?;
+        assert!(rt; text.len() < 10_000);
+        let rows = rows_of(alloc, &text)?;
+        assert!(rt; read_plan(alloc, &rows).err() == fault);
+    }
     Ok(())
 }

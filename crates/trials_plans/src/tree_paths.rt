@@ -2,7 +2,8 @@
 ghost use Rattle.std.specs.Prelude.{◌<◌, ◌^◌, length};
 
 use crate::independent::grow;
-use crate::small::{CHAIN, JOINED_TRIANGLES, PRISM, STAR, topology_of};
+use crate::small::{CHAIN, PRISM, topology_of};
+use samples::{STAR, TRIANGLES};
 use simple_path::PathPool;
 use std::alloc::Global;
 use std::test::Fail;
@@ -22,7 +23,7 @@ fn counts(alloc: Global, text: &[u8]) -> Result<[u32; 3], Fail>
 
 #[test]
 fn there_are_as_many_paths_as_links(rt: HostRuntime) -> Result<(), Fail> {
-    for (text, links) in [(CHAIN, 2), (STAR, 3), (JOINED_TRIANGLES, 7), (PRISM, 9)] {
+    for (text, links) in [(CHAIN, 2), (STAR, 3), (TRIANGLES, 7), (PRISM, 9)] {
         assert!(rt; text.len() < 100);
         assert!(rt; counts(rt.alloc(), text)? == [links; 3]);
     }

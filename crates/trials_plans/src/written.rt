@@ -2,55 +2,16 @@
 ghost use Rattle.std.specs.Prelude.{◌<◌, length, IsTrue, IfOk};
 ghost use Rattle.plan_form.specs.Good.{IsGoodPlan};
 
-use crate::small::{JOINED_TRIANGLES, topology_of};
+use crate::small::topology_of;
 use cert_check::{Report, check};
 use link_solver::{Answer, Delays, solve_into};
 use plan_form::{Plan, read_plan};
 use rows::read_rows;
+use samples::{TRIANGLES, TRIANGLES_PLAN};
 use std::alloc::Global;
 use std::test::Fail;
 use tomo_base::NoMemory;
 use topology::Topology;
-
-const EIGHT_PATHS: &[u8] = b"plan,1
-node,0,a
-node,1,b
-node,2,c
-node,3,d
-node,4,e
-node,5,f
-link,0,0,1
-link,1,0,2
-link,2,1,2
-link,3,2,3
-link,4,3,4
-link,5,3,5
-link,6,4,5
-monitor,0
-monitor,1
-monitor,4
-monitor,5
-pocket,0,1,0
-pocket,1,1,1
-pocket,2,1,4
-pocket,3,1,5
-path,0,0 1
-path,1,0 2 1
-path,2,0 2 3 4
-path,3,0 2 3 5
-path,4,1 2 3 4
-path,5,1 2 3 5
-path,6,4 3 5
-path,7,4 5
-recipe,0,2:0
-recipe,1,1:1 1:2 -1:4
-recipe,2,1:1 -1:2 1:4
-recipe,3,-1:1 1:2 1:5 -1:6
-recipe,4,1:2 -1:3 1:6
-recipe,5,-1:2 1:3 1:6
-recipe,6,2:7
-end
-";
 
 // Whether the plan is good for the topology.
 fn is_good(alloc: Global, t: &Topology, p: &Plan) -> Result<bool, NoMemory>
@@ -78,7 +39,7 @@ fn answer_of(alloc: Global, text: &[u8], sums: &[u64]) -> Result<Option<Answer>,
     requires { length text.now < 10000 }
 {
     rows::laws::fields_are_no_longer_than_their_text();
-    let topology = topology_of(alloc, JOINED_TRIANGLES)?;
+    let topology = topology_of(alloc, TRIANGLES)?;
     let rows = read_rows(alloc, text)?;
     match read_plan(alloc, &rows) {
         Ok(plan) => Ok(solved(alloc, &topology, &plan, sums)?),
@@ -89,9 +50,9 @@ fn answer_of(alloc: Global, text: &[u8], sums: &[u64]) -> Result<Option<Answer>,
 #[test]
 fn the_first_path_with_another_sum_is_named(rt: HostRuntime) -> Result<(), Fail> {
     let alloc = rt.alloc();
-    let agreeing = answer_of(alloc, EIGHT_PATHS, &[2, 2, 3, 3, 3, 3, 2, 2])?;
+    let agreeing = answer_of(alloc, TRIANGLES_PLAN, &[2, 2, 3, 3, 3, 3, 2, 2])?;
     assert!(rt; agreeing == Some(Answer::Solved));
-    let other = answer_of(alloc, EIGHT_PATHS, &[1, 2, 3, 3, 3, 5, 2, 1])?;
+    let other = answer_of(alloc, TRIANGLES_PLAN, &[1, 2, 3, 3, 3, 5, 2, 1])?;
     assert!(rt; other == Some(Answer::Path(2)));
     Ok(())
 }

@@ -1,6 +1,6 @@
 // A plan of two links with one change.
 use crate::stage::run;
-use crate::texts::{TWO_LINKS, TWO_LINKS_PLAN};
+use samples::{TWO_LINKS, TWO_LINKS_PLAN, with_row};
 use std::alloc::Global;
 use std::test::Fail;
 use tomo_run::Status;
@@ -64,18 +64,6 @@ const CHANGES: [(usize, &[u8], Status, &[u8]); 21] = [
     (17, b"end,x", Status::BadInput, b"refused,p,record,17\n"),
 ];
 
-// The plan of two links with other bytes in place of the row with a number.
-fn changed(alloc: Global, number: usize, row: &[u8]) -> Result<Vec<u8>, Fail> {
-    let mut text = Vec::new(alloc);
-    let mut place = 0usize;
-    for line in TWO_LINKS_PLAN.split(|byte| *byte == b'\n') {
-        place = place.wrapping_add(1);
-        text.extend_from_slice(if place == number { row } else { line })?;
-        text.push(b'\n')?;
-    }
-    Ok(text)
-}
-
 // Whether `check` of a plan for two links ends and writes so.
 fn is_checked(alloc: Global, plan: &[u8], status: Status, output: &[u8]) -> Result<bool, Fail> {
     let files = [("t", TWO_LINKS), ("p", plan)];
@@ -86,7 +74,7 @@ fn is_checked(alloc: Global, plan: &[u8], status: Status, output: &[u8]) -> Resu
 #[test]
 fn one_change_of_a_plan_is_told(rt: HostRuntime) -> Result<(), Fail> {
     for (number, row, status, output) in CHANGES {
-        let plan = changed(rt.alloc(), number, row)?;
+        let plan = with_row(rt.alloc(), TWO_LINKS_PLAN, number, row)?;
         let told = is_checked(rt.alloc(), &plan, status, output)?;
         assert_eq!(rt; told, true, "row {number}");
     }
@@ -115,7 +103,7 @@ fn plans_of_few_rows_are_told(rt: HostRuntime) -> Result<(), Fail> {
 
 #[test]
 fn a_second_end_is_refused(rt: HostRuntime) -> Result<(), Fail> {
-    let plan = changed(rt.alloc(), 17, b"end\nend")?;
+    let plan = with_row(rt.alloc(), TWO_LINKS_PLAN, 17, b"end\nend")?;
     assert!(rt; is_checked(rt.alloc(), &plan, Status::BadInput, b"refused,p,after,18\n")?);
     Ok(())
 }

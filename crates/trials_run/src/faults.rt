@@ -1,7 +1,7 @@
 // Each call of a device fails once: how the run ends, and what is written.
 use crate::stage::{shelf_of, words_of};
-use crate::texts::{STAR, STAR_PLAN, TWO_LINKS, TWO_LINKS_PLAN};
 use outside::MemSink;
+use samples::{STAR, STAR_PLAN, TWO_LINKS, TWO_LINKS_PLAN};
 use std::alloc::Global;
 use std::test::Fail;
 use tomo_run::{Status, tomo};

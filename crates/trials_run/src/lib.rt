@@ -4,6 +4,8 @@
 #[cfg(test)]
 mod changes;
 #[cfg(test)]
+mod choosing;
+#[cfg(test)]
 mod faults;
 #[cfg(test)]
 mod planning;
@@ -15,5 +17,3 @@ mod solving;
 mod stage;
 #[cfg(test)]
 mod telling;
-#[cfg(test)]
-mod texts;

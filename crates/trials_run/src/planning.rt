@@ -1,6 +1,6 @@
 // Plans, and paths for given monitors.
 use crate::stage::{lines_of, plan_begins, run, run_over_plan};
-use crate::texts::{
+use samples::{
     CAMPUS, COMPLETE, COMPLETE_PLAN, COMPLETE_WITH_A_LEAF, RING, RING_PLAN, SHARING_A_NODE,
     SHARING_A_PAIR, STAR, STAR_PATHS, STAR_PLAN, TRIANGLES, TWO_LINKS, TWO_LINKS_PLAN,
 };
@@ -48,7 +48,7 @@ fn links_may_be_spelled_in_several_ways(rt: HostRuntime) -> Result<(), Fail> {
 }
 
 const LEAF_ROWS: &[u8] =
-    b"plan,1\nnode,0,a\nnode,1,b\nnode,2,c\nnode,3,d\nnode,4,e\nlink,0,0,1\nlink,1,0,2\nlink,2,0,3\nlink,3,1,2\nlink,4,1,3\n\
+    b"plan,2\nnode,0,a\nnode,1,b\nnode,2,c\nnode,3,d\nnode,4,e\nlink,0,0,1\nlink,1,0,2\nlink,2,0,3\nlink,3,1,2\nlink,4,1,3\n\
     link,5,2,3\nlink,6,3,4\nmonitor,0\nmonitor,1\nmonitor,4\npocket,0,2,0 1 2\npocket,1,1,4\npath,0,";
 
 #[test]
@@ -77,7 +77,7 @@ const PLACED: [(&[u8], &[u8], u32); 3] = [
 ];
 
 // Whether a piece stands somewhere in a text.
-fn has_piece(text: &[u8], piece: &[u8]) -> bool {
+pub fn has_piece(text: &[u8], piece: &[u8]) -> bool {
     for at in 0..text.len() {
         if text[at..].starts_with(piece) {
             return true;
@@ -123,7 +123,7 @@ const GIVEN: [([&[u8]; 2], Status, &[u8]); 3] = [
     (
         [COMPLETE, b"a\nb\nc\nd\n"],
         Status::Done,
-        b"plan,1\nnode,0,a\nnode,1,b\nnode,2,c\nnode,3,d\nlink,0,0,1\nlink,1,0,2\nlink,2,0,3\nlink,3,1,2\nlink,4,1,3\n\
+        b"plan,2\nnode,0,a\nnode,1,b\nnode,2,c\nnode,3,d\nlink,0,0,1\nlink,1,0,2\nlink,2,0,3\nlink,3,1,2\nlink,4,1,3\n\
             link,5,2,3\nmonitor,0\nmonitor,1\nmonitor,2\nmonitor,3\npath,0,0 1\npath,1,0 2\npath,2,0 3\npath,3,1 2\npath,4,1 3\n\
             path,5,2 3\nrecipe,0,2:0\nrecipe,1,2:1\nrecipe,2,2:2\nrecipe,3,2:3\nrecipe,4,2:4\nrecipe,5,2:5\nend\n",
     ),

@@ -1,7 +1,7 @@
 // Words without a shape, files that are refused, and devices that fail.
 use crate::stage::{lines_of, run, shelf_of, words_of};
-use crate::texts::{TWO_LINKS, TWO_LINKS_PLAN};
 use outside::MemSink;
+use samples::{TWO_LINKS, TWO_LINKS_PLAN};
 use std::alloc::Global;
 use std::test::Fail;
 use tomo_run::{Status, tomo};
@@ -125,7 +125,7 @@ fn a_write_that_fails_leaves_what_was_written(rt: HostRuntime) -> Result<(), Fai
     let mut sink = MemSink::new(rt.alloc(), 1000, 10)?;
     sink.fail_at(2)?;
     assert!(rt; tomo(rt.alloc(), &words, &mut shelf, &mut sink) == Status::WriteFault);
-    assert!(rt; sink.bytes() == b"plan,1\nnod".as_slice());
+    assert!(rt; sink.bytes() == b"plan,2\nnod".as_slice());
     Ok(())
 }
 

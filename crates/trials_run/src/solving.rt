@@ -1,7 +1,8 @@
 // Rounds are solved, and drills are made.
 use crate::stage::{lines_of, run, run_over_plan};
-use crate::texts::{
+use samples::{
     COMPLETE, COMPLETE_PLAN, STAR, STAR_PLAN, TRIANGLES, TRIANGLES_PLAN, TWO_LINKS, TWO_LINKS_PLAN,
+    with_row,
 };
 use std::alloc::Global;
 use std::test::Fail;
@@ -155,17 +156,8 @@ fn rounds_over_other_plans_are_solved(rt: HostRuntime) -> Result<(), Fail> {
 
 #[test]
 fn a_recipe_with_another_sign_is_refused(rt: HostRuntime) -> Result<(), Fail> {
-    let right = b"recipe,3,-1:1 ".as_slice();
-    let mut plan = Vec::new(rt.alloc());
-    for line in TRIANGLES_PLAN.split(|byte| *byte == b'\n') {
-        let turned = line.starts_with(right);
-        plan.extend_from_slice(if turned {
-            b"recipe,3,1:1 1:2 1:5 -1:6"
-        } else {
-            line
-        })?;
-        plan.push(b'\n')?;
-    }
+    let turned = b"recipe,3,1:1 1:2 1:5 -1:6".as_slice();
+    let plan = with_row(rt.alloc(), TRIANGLES_PLAN, 34, turned)?;
     let files = [("t", TRIANGLES), ("p", plan.as_slice())];
     let (status, sink) = run(rt.alloc(), &["check", "t", "p"], &files)?;
     assert!(rt; status == Status::Negative);

@@ -28,13 +28,30 @@ pub fn shelf_of(alloc: Global, files: Files<'_>) -> Result<MemShelf, Fail> {
     Ok(shelf)
 }
 
-// How a run over the files ends, and what it writes.
-pub fn run(alloc: Global, words: &[&str], files: Files<'_>) -> Result<(Status, MemSink), Fail> {
+// How a run over a shelf ends, and what it writes.
+fn run_on(alloc: Global, words: &[&str], mut shelf: MemShelf) -> Result<(Status, MemSink), Fail> {
     let words = words_of(alloc, words)?;
-    let mut shelf = shelf_of(alloc, files)?;
     let mut sink = MemSink::new(alloc, 1 << 24, 1000)?;
     let status = tomo(alloc, &words, &mut shelf, &mut sink);
     Ok((status, sink))
+}
+
+// How a run over the files ends, and what it writes.
+pub fn run(alloc: Global, words: &[&str], files: Files<'_>) -> Result<(Status, MemSink), Fail> {
+    run_on(alloc, words, shelf_of(alloc, files)?)
+}
+
+// How a command over a topology and one more file ends, and what it writes.
+pub fn run_over_two(
+    alloc: Global,
+    command: &str,
+    topology: &[u8],
+    other: &[u8],
+) -> Result<(Status, MemSink), Fail> {
+    let mut shelf = MemShelf::new(alloc);
+    shelf.put("t", topology)?;
+    shelf.put("o", other)?;
+    run_on(alloc, &[command, "t", "o"], shelf)
 }
 
 // Whether `plan` prints a plan for the topology that begins with these rows.
@@ -51,12 +68,9 @@ pub fn run_over_plan(
     files: Files<'_>,
 ) -> Result<(Status, MemSink), Fail> {
     let (_, plan) = run(alloc, planning, files)?;
-    let words = words_of(alloc, words)?;
     let mut shelf = shelf_of(alloc, files)?;
     shelf.put("p", plan.bytes())?;
-    let mut sink = MemSink::new(alloc, 1 << 24, 1000)?;
-    let status = tomo(alloc, &words, &mut shelf, &mut sink);
-    Ok((status, sink))
+    run_on(alloc, words, shelf)
 }
 
 // How many lines begin with a word.

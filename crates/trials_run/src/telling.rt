@@ -1,6 +1,6 @@
 // Monitors are judged, single links are told, plans are checked, parts and trees are told.
 use crate::stage::{lines_of, run};
-use crate::texts::{
+use samples::{
     CHORD, HEXAGON, PRISM, SHARING_A_PAIR, STAR, TRIANGLES, TRIANGLES_PLAN, TWO_LINKS,
     TWO_LINKS_PLAN,
 };

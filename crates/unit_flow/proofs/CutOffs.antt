@@ -4,20 +4,20 @@ use Rattle.tomo_base.specs.Network.{Network}
 use Rattle.tomo_base.specs.Sets.{has, outside, size}
 use Rattle.tomo_base.specs.BadParts.{IsCutOff}
 use Rattle.tomo_base.proofs.Counts.{count-same}
-use Rattle.unit_flow.specs.Flows.{Task, IsTask, task_of, no_paths, IsFlow, ways_out, IsCut}
+use Rattle.unit_flow.specs.Flows.{Task, IsTask, no_paths, IsFlow, ways_out, IsCut, routing_task}
 use Rattle.unit_flow.specs.Widening.{IsStuck}
 use Rattle.unit_flow.specs.Fan.{IsLeastCutOff}
-use Rattle.unit_flow.proofs.Lists.{has_none}
+use Rattle.tomo_base.proofs.Members.{has_none}
 use Rattle.unit_flow.proofs.Tasks.{cut_bounds}
 
 -- a set is left whole by an empty one
 whole : (a b : Bool) → b ≡ false → (a && not b) ≡ a
 whole a b h = grind arith
 
-module _ (g : Network) (v : ℕ) (m : List ℕ) (ok : IsTask (task_of (no_paths g v m []))) where
+module _ (g : Network) (v : ℕ) (m : List ℕ) (ok : IsTask (routing_task (no_paths g v m []))) where
   -- the task of paths from v to nodes of m, over any nodes
   abbrev pub t : Task
-  t = task_of (no_paths g v m [])
+  t = routing_task (no_paths g v m [])
 
   -- all outside neighbours are ways out
   ways_same : (q : ℕ → Bool) → size g (ways_out t q) ≡ size g (outside g q)

@@ -10,26 +10,27 @@ use Rattle.tomo_base.specs.Search.{mark_of}
 use Rattle.tomo_base.specs.Sets.{has}
 use Rattle.tomo_base.proofs.Ascending.{All-from_has}
 use Rattle.unit_flow.specs.declared.ask.Ask.{Ask}
-use Rattle.unit_flow.specs.Flows.{Task, IsTask, Routing, task_of, IsRoute, IsFlow, IsLeastCut, later_of, all_later}
+use Rattle.unit_flow.specs.Flows.{Task, IsTask, Routing, IsRoute, IsFlow, IsLeastCut, later_of, all_later, routing_task}
 use Rattle.unit_flow.specs.declared.widening.Outcome.{Outcome}
 use Rattle.unit_flow.specs.Widening.{Comes, IsStuck}
-use Rattle.unit_flow.specs.Kept.{HasRoom, IsKept}
+use Rattle.unit_flow.specs.Kept.{HasPathRoom, KeepsFlow}
 use Rattle.unit_flow.specs.Search.{asked, IsAsked}
-use Rattle.unit_flow.proofs.Lists.{has_cases, few_below}
+use Rattle.tomo_base.proofs.Members.{has_cases}
+use Rattle.tomo_base.proofs.Paths.{few_below}
 use Rattle.unit_flow.proofs.Load.{all_on}
 use Rattle.unit_flow.proofs.Back.{on_low}
 use Rattle.unit_flow.proofs.Links.{jb}
 use Rattle.unit_flow.proofs.Tasks.{cut_bounds}
 use Rattle.unit_flow.proofs.Law.{array_of, array_arcs}
 use Rattle.unit_flow.proofs.Marking.{unmarked_past}
-use Rattle.unit_flow.proofs.Writes.{fun_same}
+use Rattle.std.proofs.Math.Path.{fun_ext}
 
 -- what is asked for is the task with the sets whose marks it has
 pub same_task : (g : Network) (a : Ask) (targets banned : List ℕ) → ((v : ℕ) → mark_of a.targets.items v ≡ has targets v) → ((v : ℕ) → mark_of a.banned.items v ≡ has banned v)
     → asked g a ≡ record { graph = g; source = a.source; targets = has targets; banned = has banned }
 same_task g a targets banned h k =
     let task : (ℕ → Bool) → (ℕ → Bool) → Task = λ x y. record { graph = g; source = a.source; targets = x; banned = y } in
-    ap₂ task (fun_same (mark_of a.targets.items) (has targets) h) (fun_same (mark_of a.banned.items) (has banned) k)
+    ap₂ task (fun_ext {f = mark_of a.targets.items} {g = has targets} h) (fun_ext {f = mark_of a.banned.items} {g = has banned} k)
 
 module _ (t : Task) (ok : IsTask t) where
   -- a flow has no more nodes after the source than the graph has others
@@ -66,7 +67,7 @@ module _ (t : Task) (ok : IsTask t) where
   pub stuck_by : (ps : List (List ℕ)) (seen : List Bool) (q : List ℕ) → length seen ≡ t.graph.nodes → IsLeastCut t (length ps) (mark_of seen) → ((v : ℕ) → has q v ≡ mark_of seen v) → IsStuck t ps q
   stuck_by ps seen q size cut same = record {
     most = λ other flow. cut_bounds t (mark_of seen) (length ps) other ok cut.cut flow;
-    cut = subst (IsLeastCut t (length ps)) (sym (fun_same (has q) (mark_of seen) same)) cut;
+    cut = subst (IsLeastCut t (length ps)) (sym (fun_ext {f = has q} {g = mark_of seen} same)) cut;
     below = All-from_has (λ v. v < t.graph.nodes) q (λ v h. elim (cases_lt v t.graph.nodes) [
       | inl l ↦ l
       | inr ge ↦ absurd (both_ways (mark_of seen v) (unmarked_past seen v (omega (arith, ge, size))) (sym (same v) ∙ h))
@@ -84,7 +85,7 @@ first_put (q ∷ paths) p l = refl
 
 -- a flow without paths
 pub kept_new : (g : Network) (a : Ask) (targets banned : List ℕ) (room : Vec ℕ Global) → IsAsked g a → ((v : ℕ) → mark_of a.targets.items v ≡ has targets v) → ((v : ℕ) → mark_of a.banned.items v ≡ has banned v)
-    → length room.items ≡ g.nodes → IsKept g a targets banned 0 (room ∷ [])
+    → length room.items ≡ g.nodes → KeepsFlow g a targets banned 0 (room ∷ [])
 unfolding has
 kept_new g a targets banned room is h k long = record {
   is_asked = is;
@@ -95,24 +96,24 @@ kept_new g a targets banned room is h k long = record {
   room = λ _. record { some = omega arith; long = λ d. long };
 }
 
-module _ {g : Network} {a : Ask} {targets banned : List ℕ} {count : ℕ} {paths : List (Vec ℕ Global)} (k : IsKept g a targets banned count paths) where
+module _ {g : Network} {a : Ask} {targets banned : List ℕ} {count : ℕ} {paths : List (Vec ℕ Global)} (k : KeepsFlow g a targets banned count paths) where
   module _ {r : Routing} (view : record { graph = g; source = a.source; targets = targets; banned = banned; paths = map (λ p. p.items) (take count paths) } ≡ r) where
     -- what is asked for is the task of the flow as contracts see it
-    pub kept_task : asked g a ≡ task_of r
-    kept_task = same_task g a targets banned k.marks_targets k.marks_banned ∙ ap task_of view
+    pub kept_task : asked g a ≡ routing_task r
+    kept_task = same_task g a targets banned k.marks_targets k.marks_banned ∙ ap routing_task view
 
     -- a flow without paths counts none
     none_counted : r.paths ≡ [] → count ≡ 0
     none_counted none = sym (length-first count paths k.within) ∙ ap (λ (x : Routing). length x.paths) view ∙ ap (λ z. length z) none
 
     -- a path that it may take fits into the first list
-    pub path_fits : r.paths ≡ [] → (p : List ℕ) (d : Vec ℕ Global) → IsFlow (task_of r) (p ∷ []) → length p ≤ length (get_or paths 0 d).items
+    pub path_fits : r.paths ≡ [] → (p : List ℕ) (d : Vec ℕ Global) → IsFlow (routing_task r) (p ∷ []) → length p ≤ length (get_or paths 0 d).items
     path_fits none p d flow = omega (arith, path_short (asked g a) k.is_asked.task p (subst (λ z. IsFlow z (p ∷ [])) (sym kept_task) flow), (k.room (none_counted none)).long d)
 
     -- the first list takes it
-    pub kept_path : r.paths ≡ [] → (p : Vec ℕ Global) → IsFlow (task_of r) (p.items ∷ []) → IsKept g a targets banned 1 (set paths 0 p)
+    pub kept_path : r.paths ≡ [] → (p : Vec ℕ Global) → IsFlow (routing_task r) (p.items ∷ []) → KeepsFlow g a targets banned 1 (set paths 0 p)
     kept_path none p flow =
-        let room : HasRoom g.nodes paths = k.room (none_counted none) in
+        let room : HasPathRoom g.nodes paths = k.room (none_counted none) in
         record {
           is_asked = k.is_asked;
           marks_targets = k.marks_targets;
@@ -123,8 +124,8 @@ module _ {g : Network} {a : Ask} {targets banned : List ℕ} {count : ℕ} {path
         }
 
     -- what the widening of the lists that were lent comes to, said of the flow as contracts see it
-    pub came : {h : Network} {lent : List (Vec ℕ Global)} {o new : Outcome} → r.graph ≡ h → lent ≡ paths → o ≡ new → Comes (asked h a) (map (λ p. p.items) (take count lent)) o → Comes (task_of r) r.paths new
+    pub came : {h : Network} {lent : List (Vec ℕ Global)} {o new : Outcome} → r.graph ≡ h → lent ≡ paths → o ≡ new → Comes (asked h a) (map (λ p. p.items) (take count lent)) o → Comes (routing_task r) r.paths new
     came {h = h} {lent = lent} {o = o} graph lent_is is come =
-        let same : asked h a ≡ task_of r = ap (λ z. asked z a) (sym (ap (λ (x : Routing). x.graph) view ∙ graph)) ∙ kept_task in
+        let same : asked h a ≡ routing_task r = ap (λ z. asked z a) (sym (ap (λ (x : Routing). x.graph) view ∙ graph)) ∙ kept_task in
         let old : map (λ p. p.items) (take count lent) ≡ r.paths = ap (λ z. map (λ p. p.items) (take count z)) lent_is ∙ ap (λ (x : Routing). x.paths) view in
-        subst (Comes (task_of r) r.paths) is (subst (λ z. Comes z r.paths o) same (subst (λ z. Comes (asked h a) z o) old come))
+        subst (Comes (routing_task r) r.paths) is (subst (λ z. Comes z r.paths o) same (subst (λ z. Comes (asked h a) z o) old come))

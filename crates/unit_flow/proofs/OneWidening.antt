@@ -11,12 +11,12 @@ use Rattle.tomo_base.specs.Walks.{NoneTwice}
 use Rattle.unit_flow.specs.declared.arrays.Reached.{Reached}
 use Rattle.unit_flow.specs.Flows.{Task, IsTask, LeadsFrom, IsRoute, IsFlow, IsWider, IsLeastCut, second_of, last_of}
 use Rattle.unit_flow.specs.Arrays.{put, load_all}
-use Rattle.unit_flow.specs.Steps.{entry_of, node_at, ArcsFor, IsQueue, Followed, Stands, ReadsAll}
+use Rattle.unit_flow.specs.Steps.{entry_of, node_at, ArcsFor, IsQueue, Followed, Stands, ReadsPaths}
 use Rattle.unit_flow.specs.Search.{IsNear, IsDone, IsHit, Reaching}
 use Rattle.unit_flow.proofs.Back.{on_low}
 use Rattle.unit_flow.proofs.Law.{array_of, array_arcs, ending}
 use Rattle.unit_flow.proofs.Links.{jb}
-use Rattle.unit_flow.proofs.Writes.{fun_same}
+use Rattle.std.proofs.Math.Path.{fun_ext}
 use Rattle.unit_flow.proofs.Results.{stuck_cut}
 
 -- what the search found: a free target near the node at a place of the queue
@@ -34,7 +34,7 @@ pub record Ends (t : Task) (old : List (List ℕ)) (arr : List (Option ℕ)) (en
   pub apart : NoneTwice ends
   pub stands : All (Stands t (entry_of arr)) ends
   pub inside : All (λ e. e < length arr) ends
-  pub wider : (new : List (List ℕ)) → ReadsAll t (entry_of arr) ends new → IsWider t old new
+  pub wider : (new : List (List ℕ)) → ReadsPaths t (entry_of arr) ends new → IsWider t old new
 
 module _ (t : Task) (ok : IsTask t) where
   -- a way goes over nodes
@@ -72,7 +72,7 @@ module _ (t : Task) (ok : IsTask t) where
     module _ (before : List (Option ℕ)) (loaded : (v : ℕ) → entry_of before v ≡ load_all t.source (λ _. None) (map (λ p. p.items) paths) v) where
       -- the array that was loaded, as a function of the list that is read
       array_is : {read : List (Option ℕ)} → read ≡ before → entry_of read ≡ array_of t ok (map (λ p. p.items) paths)
-      array_is same = ap entry_of same ∙ fun_same (entry_of before) (array_of t ok (map (λ p. p.items) paths)) loaded
+      array_is same = ap entry_of same ∙ fun_ext {f = entry_of before} {g = array_of t ok (map (λ p. p.items) paths)} loaded
 
       -- its entries are the nodes before
       pub loaded_arcs : {read : List (Option ℕ)} → read ≡ before → ArcsFor t (entry_of read)
@@ -96,7 +96,7 @@ module _ (t : Task) (ok : IsTask t) where
           (subst (λ z. Followed t z (entry_of last) lent_queue place target) (array_is lent_is)
           (walk ok (loaded_arcs lent_is)
           (subst (λ z. IsQueue t z lent_queue) (sym (array_is lent_is)) (subst (IsQueue t (array_of t ok ps)) (sym queue_is) found.reaching.queue_is)))) in
-          let last_is : entry_of last ≡ put end.walked target (Some (node_at queue place)) = fun_same (entry_of last) (put end.walked target (Some (node_at queue place))) end.moved in
+          let last_is : entry_of last ≡ put end.walked target (Some (node_at queue place)) = fun_ext {f = entry_of last} {g = put end.walked target (Some (node_at queue place))} end.moved in
           let link : linked t.graph (node_at queue place) target ≡ true = elim found.near as (λ _. linked t.graph (node_at queue place) target ≡ true) [
             | inl e ↦ absurd (both_ways (t.targets target) (ap t.targets (sym (eqb-true (node_at queue place) target e)) ∙ found.reaching.plain place found.inside) found.hit.1)
             | inr e ↦ e

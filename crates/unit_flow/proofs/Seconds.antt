@@ -10,7 +10,7 @@ use Rattle.tomo_base.specs.Walks.{NoneTwice}
 use Rattle.simple_path.specs.Pools.{nodes_in}
 use Rattle.unit_flow.specs.Flows.{Task, IsTask, IsRoute, IsFlow, all_later, second_of}
 use Rattle.unit_flow.specs.declared.ask.Ask.{Ask}
-use Rattle.unit_flow.specs.Kept.{IsKept}
+use Rattle.unit_flow.specs.Kept.{KeepsFlow}
 use Rattle.unit_flow.specs.Search.{asked}
 use Rattle.unit_flow.proofs.Start.{picks}
 use Rattle.unit_flow.proofs.Law.{each, member_leads}
@@ -54,7 +54,7 @@ pub record Listed (n : ℕ) (lists : List (Vec ℕ Global)) : Type 0 where
   pub room : nodes_in (map (λ p. p.items) lists) < 2 ^ 31
 
 -- those of a flow, as they are lent, are such
-pub listed : {g : Network} {a : Ask} {targets banned : List ℕ} {count : ℕ} {paths lent : List (Vec ℕ Global)} → IsKept g a targets banned count paths → lent ≡ paths → Listed g.nodes (take count lent)
+pub listed : {g : Network} {a : Ask} {targets banned : List ℕ} {count : ℕ} {paths lent : List (Vec ℕ Global)} → KeepsFlow g a targets banned count paths → lent ≡ paths → Listed g.nodes (take count lent)
 listed {g = g} {a = a} {count = count} {paths = paths} k same =
     let t = asked g a in
     let ok = k.is_asked.task in

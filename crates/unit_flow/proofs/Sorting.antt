@@ -19,7 +19,8 @@ use Rattle.unit_flow.specs.Flows.{second_of}
 use Rattle.unit_flow.specs.Arrays.{on}
 use Rattle.unit_flow.specs.Steps.{entry_of}
 use Rattle.unit_flow.specs.Order.{AreInOrder, ArePlaces}
-use Rattle.unit_flow.proofs.Moves.{some_inj, put_there, put_else, stays_on}
+use Rattle.unit_flow.proofs.Moves.{put_there, put_else, stays_on}
+use Rattle.tomo_base.proofs.Lists.{some_inj}
 use Rattle.unit_flow.proofs.Writes.{array_put}
 
 -- the paths whose second node is v or above

@@ -6,7 +6,7 @@ use Rattle.unit_flow.specs.declared.widening.Outcome.{Outcome}
 use Rattle.unit_flow.specs.declared.widening.Outcome.TheVariants.{Wider, Reached}
 use Rattle.unit_flow.specs.declared.flow.Widened.{Widened}
 use Rattle.unit_flow.specs.declared.flow.Widened.TheVariants.{More, Stuck}
-use Rattle.unit_flow.specs.Flows.{Task, Routing, task_of, IsFlow, IsWider, IsLeastCut}
+use Rattle.unit_flow.specs.Flows.{Task, Routing, IsFlow, IsWider, IsLeastCut, routing_task}
 
 -- either a flow of one path more, or marks of the least set that stops the flow
 abbrev pub Comes : Task → List (List ℕ) → Outcome → Type 0
@@ -21,5 +21,5 @@ pub record IsStuck (t : Task) (paths : List (List ℕ)) (q : List ℕ) : Type 0 
 
 -- from the flow before to the flow after: the same task with one path more, or the same flow, which is stuck
 abbrev pub Widens : Routing → Routing → Widened → Type 0
-Widens old new More = (new ≡ record old { paths = new.paths }) × IsWider (task_of old) old.paths new.paths
-Widens old new (Stuck q) = (new ≡ old) × IsStuck (task_of old) old.paths q
+Widens old new More = (new ≡ record old { paths = new.paths }) × IsWider (routing_task old) old.paths new.paths
+Widens old new (Stuck q) = (new ≡ old) × IsStuck (routing_task old) old.paths q

@@ -1,5 +1,6 @@
 // Sets of nodes as marks, and back.
 ghost use Rattle.std.specs.Prelude.{◌≡◌, ◌<◌, ◌≤◌, ◌||◌, ℕ, length, All, IfOk};
+ghost use Rattle.tomo_base.specs.Limits.{graph_node_limit};
 ghost use Rattle.tomo_base.specs.Search.{mark_of};
 ghost use Rattle.tomo_base.specs.Sets.{has};
 
@@ -30,7 +31,7 @@ pub fn marks(alloc: Global, count: u32, set: &NodeSet) -> Result<Vec<bool>, Allo
 
 /// The set of the nodes that are marked.
 pub fn marked(alloc: Global, marks: &[bool]) -> Result<NodeSet, NoMemory>
-    requires { length marks.now ≤ 10000 }
+    requires { length marks.now ≤ graph_node_limit }
     ensures { IfOk result (λ set. (v : ℕ) → has set v ≡ mark_of marks.now v) }
 {
     let mut set = NodeSet::new(alloc);

@@ -1,6 +1,6 @@
 use Rattle.std.proofs.Common.{◌≡◌, ◌≤◌, length, get_or, arith, refl, ap, subst, map, ℕ, List}
+use Rattle.tomo_base.specs.Limits.{graph_node_limit}
 use Rattle.tomo_base.specs.Network.{Network}
-use Rattle.tomo_base.specs.NodeLists.{node_limit}
 use Rattle.tomo_base.proofs.Ascending.{length-node_set}
 use Rattle.rows.specs.Rows.{RowList}
 use Rattle.plan_form.specs.PlanRows.{end_row, node_row, numbered}
@@ -22,14 +22,14 @@ pub add_cuts-requires-clause-room : goal.add_cuts-requires-clause-room
 add_cuts-requires-clause-room c =
     let topo = c.graph-g.ensures.topology in
     let none : length c.new-rows.result.closed ≡ 0 = ap (λ (r : RowList). length r.closed) c.new-rows.ensures in
-    let few : length c.cuts.result.now ≤ node_limit = length-node_set c.cuts.result.now (record { ascending = c.as_slice.ensures.ascending; below = c.as_slice.ensures.below }) in
+    let few : length c.cuts.result.now ≤ graph_node_limit = length-node_set c.cuts.result.now (record { ascending = c.as_slice.ensures.ascending; below = c.as_slice.ensures.below }) in
     rw c.as_slice.ensures.nodes (omega (arith, none, few, topo.one_each, topo.few_nodes, c.in_ok-add_nodes.ensures.count))
 
 pub add_blocks-requires-clause-room : goal.add_blocks-requires-clause-room
 add_blocks-requires-clause-room c =
     let topo = c.graph-g.ensures.topology in
     let none : length c.new-rows.result.closed ≡ 0 = ap (λ (r : RowList). length r.closed) c.new-rows.ensures in
-    let cuts : length c.as_slice.result.now ≤ node_limit = rw c.as_slice.ensures.nodes (length-node_set c.cuts.result.now (record { ascending = c.as_slice.ensures.ascending; below = c.as_slice.ensures.below })) in
+    let cuts : length c.as_slice.result.now ≤ graph_node_limit = rw c.as_slice.ensures.nodes (length-node_set c.cuts.result.now (record { ascending = c.as_slice.ensures.ascending; below = c.as_slice.ensures.below })) in
     let nodes = ap (λ (g : Network). g.nodes) c.graph-g.ensures.graph in
     rw c.list-3.ensures (omega (arith, none, cuts, nodes, topo.one_each, topo.few_nodes, c.in_ok-parts.ensures.few, c.in_ok-add_nodes.ensures.count, c.in_ok-add_cuts.ensures.count))
 
@@ -37,7 +37,7 @@ pub add_three_blocks-requires-clause-room : goal.add_three_blocks-requires-claus
 add_three_blocks-requires-clause-room c =
     let topo = c.graph-g.ensures.topology in
     let none : length c.new-rows.result.closed ≡ 0 = ap (λ (r : RowList). length r.closed) c.new-rows.ensures in
-    let cuts : length c.as_slice.result.now ≤ node_limit = rw c.as_slice.ensures.nodes (length-node_set c.cuts.result.now (record { ascending = c.as_slice.ensures.ascending; below = c.as_slice.ensures.below })) in
+    let cuts : length c.as_slice.result.now ≤ graph_node_limit = rw c.as_slice.ensures.nodes (length-node_set c.cuts.result.now (record { ascending = c.as_slice.ensures.ascending; below = c.as_slice.ensures.below })) in
     let blocks = ap (λ (bs : List (List ℕ)). length bs) c.list-3.ensures in
     let nodes = ap (λ (g : Network). g.nodes) c.graph-g.ensures.graph in
     omega (arith, none, cuts, blocks, nodes, topo.one_each, topo.few_nodes, c.in_ok-parts.ensures.few, c.in_ok-three_blocks.ensures.few, c.in_ok-add_nodes.ensures.count, c.in_ok-add_cuts.ensures.count, c.in_ok-add_blocks.ensures.count)
@@ -46,7 +46,7 @@ pub add_row-requires-clause-room : goal.add_row-requires-clause-room
 add_row-requires-clause-room c =
     let topo = c.graph-g.ensures.topology in
     let none : length c.new-rows.result.closed ≡ 0 = ap (λ (r : RowList). length r.closed) c.new-rows.ensures in
-    let cuts : length c.as_slice.result.now ≤ node_limit = rw c.as_slice.ensures.nodes (length-node_set c.cuts.result.now (record { ascending = c.as_slice.ensures.ascending; below = c.as_slice.ensures.below })) in
+    let cuts : length c.as_slice.result.now ≤ graph_node_limit = rw c.as_slice.ensures.nodes (length-node_set c.cuts.result.now (record { ascending = c.as_slice.ensures.ascending; below = c.as_slice.ensures.below })) in
     let blocks = ap (λ (bs : List (List ℕ)). length bs) c.list-3.ensures in
     let nodes = ap (λ (g : Network). g.nodes) c.graph-g.ensures.graph in
     omega (

@@ -1,5 +1,5 @@
 use Rattle.std.proofs.Common.{◌≡◌, ◌++◌, take}
-use Rattle.blocks.specs.Lists.{lists_of}
+use Rattle.tomo_base.specs.SetLists.{lists_of}
 use Rattle.answers.proofs.parts.add_sets.Given as goal
 
 -- the sets so far are added

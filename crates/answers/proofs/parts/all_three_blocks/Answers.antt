@@ -2,8 +2,7 @@ use Rattle.std.proofs.Common.{◌≡◌, ◌+◌, ◌<◌, ◌++◌, [], ◌∷�
 use Rattle.std.proofs.lemmas.List.{take_more, take_all}
 use Rattle.tomo_base.specs.Sets.{has}
 use Rattle.tomo_base.specs.Blocks.{IsBlock, IsThreeBlock}
-use Rattle.tomo_base.specs.SetLists.{IsSetBelow}
-use Rattle.blocks.specs.Lists.{lists_of}
+use Rattle.tomo_base.specs.SetLists.{IsSetBelow, lists_of}
 use Rattle.blocks.proofs.SameSets.{node_sets}
 use Rattle.answers.proofs.ThreeBlocks.{gathers_past, gathers_more, gathers_same, gathers_all, added_few, all_sets}
 use Rattle.answers.proofs.parts.all_three_blocks.Goals as goal

@@ -6,6 +6,12 @@ returns-in-Names c = rw (c.in-Names.is, ← c.from.ensures) c.refuse_at.ensures
 pub returns-in-Links : goal.returns-in-Links
 returns-in-Links c = rw (c.in-Links.is, ← c.from-in-Links.ensures) c.refuse_at-in-Links.ensures
 
+pub returns-in-Must : goal.returns-in-Must
+returns-in-Must c = rw (c.in-Must.is, ← c.from-in-Must.ensures) c.refuse_at-in-Must.ensures
+
+pub returns-in-Not : goal.returns-in-Not
+returns-in-Not c = rw (c.in-Not.is, ← c.from-in-Not.ensures) c.refuse_at-in-Not.ensures
+
 pub returns-in-Monitor : goal.returns-in-Monitor
 returns-in-Monitor c = rw (c.in-Monitor.is, ← c.from-in-Monitor.ensures) c.refuse_at-in-Monitor.ensures
 

@@ -1,32 +1,102 @@
-use Rattle.std.proofs.Common.{◌<◌, ◌∙◌, ap, arith}
+use Rattle.std.proofs.Common.{◌<◌, ◌∙◌, ◌++◌, [], ◌∷◌, true, length, refl, ap, arith}
+use Rattle.std.specs.Vec.{with_item}
+use Rattle.std.proofs.lemmas.List.{length-replicate}
 use Rattle.tomo_base.specs.Sets.{members}
 use Rattle.tomo_base.specs.Walks.{everything}
-use Rattle.blocks.proofs.Working.{weight_of, working_start, working_found, working_cut, working_end, working_two}
+use Rattle.tomo_base.specs.Search.{mark_of}
+use Rattle.tomo_base.proofs.Ascending.{All-has}
+use Rattle.tomo_base.proofs.Members.{count-has}
+use Rattle.blocks.specs.declared.block_list.Part.{Part}
+use Rattle.blocks.specs.declared.block_list.Work.{Work}
+use Rattle.blocks.specs.Sides.{AreSides}
+use Rattle.blocks.specs.Working.{weight_of}
+use Rattle.blocks.proofs.Filtering.{never_marked}
+use Rattle.blocks.proofs.Parts.{begun, taken, all_blocks, all_cuts}
+use Rattle.blocks.proofs.Dividing.{divided_at_root}
 use Rattle.blocks.proofs.block_list.cut_up.Goals as goal
+use Rattle.blocks.proofs.block_list.cut_up.Goals.{in-None+in_ok-grow_block-in-None, in-Some-2+in_ok-push-in-Some-2+in_ok-push-in-Some-2-2}
 
 pub loop-part-init : goal.loop-part-init
-loop-part-init c = rw (c.in_ok-push.ensures.items, c.new-todo.ensures.items, c.new-found.ensures.items)
-    (working_start c.args.g.now _ c.nodes.ensures.graph c.requires.connected c.requires.two (c.in_ok-all_nodes.ensures ∙ ap (λ k. members k everything) c.nodes.ensures.nodes))
+loop-part-init c =
+    let g = c.args.g.now in
+    let part : Part = record { nodes = c.in_ok-all_nodes.field-0; root = 0 } in
+    let work : Work = record { todo = c.push.new.self; found = c.new-3.result; cuts = c.in_ok-vec.field-0 } in
+    let bare = c.in_ok-vec.ensures.items_if_clones_equal (λ y h. h) in
+    record {
+      working = begun g work part c.nodes-n.ensures.graph c.requires.connected c.requires.two (c.in_ok-all_nodes.ensures ∙ ap (λ k. members k everything) c.nodes-n.ensures.nodes) refl
+          (c.in_ok-push.ensures.items ∙ ap (λ xs. xs ++ part ∷ []) c.new-2.ensures.items) c.new-3.ensures.items (ap length bare ∙ (length-replicate c.nodes-n.result _ ∙ c.nodes-n.ensures.nodes))
+          (λ v. ap (λ xs. mark_of xs v) bare ∙ never_marked c.nodes-n.result v);
+      room = rw c.nodes-n.ensures.nodes at c.in_ok-search.ensures;
+    }
 
-pub find_sides-requires-clause-two : goal.find_sides-requires-clause-two
-find_sides-requires-clause-two c = rw c.deref.ensures.value (working_two c.args.g.now _ _ _ (rw c.in-Some.ensures.items at c.loop-part.invariant)).1
+pub sides_at-requires-clause-set : goal.sides_at-requires-clause-set
+sides_at-requires-clause-set c =
+    let popped : Work = record { todo = c.pop.new.self; found = c.loop-part.work.found; cuts = c.loop-part.work.cuts } in
+    rw c.deref.ensures.value (taken c.args.g.now c.loop-part.work popped c.in-Some.part c.in-Some.ensures.items refl refl c.loop-part.invariant.working).1.set
 
-pub loop-part-preserved-in_ok-push-in-None : goal.loop-part-preserved-in_ok-push-in-None
-loop-part-preserved-in_ok-push-in-None c = rw c.in_ok-push-in-None.ensures.items
-    (working_found c.args.g.now _ _ _ (rw c.in-Some.ensures.items at c.loop-part.invariant) (rw c.deref.ensures.value at (rw c.in-None.is at c.in_ok-find_sides.ensures.none))).0
+pub sides_at-requires-clause-two : goal.sides_at-requires-clause-two
+sides_at-requires-clause-two c =
+    let popped : Work = record { todo = c.pop.new.self; found = c.loop-part.work.found; cuts = c.loop-part.work.cuts } in
+    let at = taken c.args.g.now c.loop-part.work popped c.in-Some.part c.in-Some.ensures.items refl refl c.loop-part.invariant.working in
+    rw c.deref.ensures.value (omega (arith, at.0.cutting.rough.0.two, count-has c.args.g.now.nodes c.in-Some.part.nodes.items at.1.set.ascending at.1.set.below))
+
+pub sides_at-requires-clause-node : goal.sides_at-requires-clause-node
+sides_at-requires-clause-node c =
+    let popped : Work = record { todo = c.pop.new.self; found = c.loop-part.work.found; cuts = c.loop-part.work.cuts } in
+    rw c.deref.ensures.value (taken c.args.g.now c.loop-part.work popped c.in-Some.part c.in-Some.ensures.items refl refl c.loop-part.invariant.working).1.root
+
+pub grow_block-requires-clause-working : goal.grow_block-requires-clause-working
+grow_block-requires-clause-working c =
+    let popped : Work = record { todo = c.pop.new.self; found = c.loop-part.work.found; cuts = c.loop-part.work.cuts } in
+    (taken c.args.g.now c.loop-part.work popped c.in-Some.part c.in-Some.ensures.items refl refl c.loop-part.invariant.working).0
+
+pub grow_block-requires-clause-part : goal.grow_block-requires-clause-part
+grow_block-requires-clause-part c =
+    let popped : Work = record { todo = c.pop.new.self; found = c.loop-part.work.found; cuts = c.loop-part.work.cuts } in
+    (taken c.args.g.now c.loop-part.work popped c.in-Some.part c.in-Some.ensures.items refl refl c.loop-part.invariant.working).1
+
+pub index_mut-requires : goal.index_mut-requires
+index_mut-requires c =
+    let popped : Work = record { todo = c.pop.new.self; found = c.loop-part.work.found; cuts = c.loop-part.work.cuts } in
+    let at = taken c.args.g.now c.loop-part.work popped c.in-Some.part c.in-Some.ensures.items refl refl c.loop-part.invariant.working in
+    let node : c.in-Some.part.root < c.args.g.now.nodes = All-has (λ v. v < c.args.g.now.nodes) c.in-Some.part.nodes.items at.1.set.below c.in-Some.part.root at.1.root in
+    omega (arith, node, c.loop-part.invariant.working.marks, c.loop-part.work.cuts.ok)
 
 pub loop-part-smaller : goal.loop-part-smaller
 loop-part-smaller c =
-    let less : weight_of c.args.g.now c.push-in-Some-2-2.new.self.items < weight_of c.args.g.now c.loop-part.todo.items = rw (c.in_ok-push-in-Some-2-2.ensures.items, c.in_ok-push-in-Some-2.ensures.items, c.in-Some.ensures.items)
-    (working_cut c.args.g.now _ _ _ _ _ c.in-Some-2.sides.cut (rw c.in-Some.ensures.items at c.loop-part.invariant) (rw c.deref.ensures.value at (rw c.in-Some-2.is at c.in_ok-find_sides.ensures.sides))).1 in
+    let g = c.args.g.now in
+    let popped : Work = record { todo = c.pop.new.self; found = c.loop-part.work.found; cuts = c.loop-part.work.cuts } in
+    let at = taken g c.loop-part.work popped c.in-Some.part c.in-Some.ensures.items refl refl c.loop-part.invariant.working in
+    let less : weight_of g [] c.match-branch-6.work < weight_of g [] c.loop-part.work = elim c.match-branch-6.branch [
+      | in-None+in_ok-grow_block-in-None w ↦ rw w.work-is (omega (arith, w.in_ok-grow_block-in-None.ensures.lighter, at.2))
+      | in-Some-2+in_ok-push-in-Some-2+in_ok-push-in-Some-2-2 w ↦
+          let cuts = with_item c.loop-part.work.cuts c.in-Some.part.root true in
+          let mid : Work = record { todo = w.push-in-Some-2.new.self; found = c.loop-part.work.found; cuts = cuts } in
+          let last : Work = record { todo = w.push-in-Some-2-2.new.self; found = c.loop-part.work.found; cuts = cuts } in
+          let sides : AreSides g c.in-Some.part.nodes.items c.in-Some.part.root w.in-Some-2.sides.near.items w.in-Some-2.sides.far.items = rw c.deref.ensures.value at (rw w.in-Some-2.is at c.in_ok-sides_at.ensures.sides) in
+          let next = divided_at_root g c.in-Some.part w.in-Some-2.sides.near w.in-Some-2.sides.far popped mid last sides w.in_ok-push-in-Some-2.ensures.items refl refl w.in_ok-push-in-Some-2-2.ensures.items refl refl at.0 in
+          rw w.work-is (omega (arith, next.1, at.2))
+    ] in
     less
 
 pub loop-part-preserved : goal.loop-part-preserved
-loop-part-preserved c = rw (c.in_ok-push-in-Some-2-2.ensures.items, c.in_ok-push-in-Some-2.ensures.items)
-    (working_cut c.args.g.now _ _ _ _ _ c.in-Some-2.sides.cut (rw c.in-Some.ensures.items at c.loop-part.invariant) (rw c.deref.ensures.value at (rw c.in-Some-2.is at c.in_ok-find_sides.ensures.sides))).0
+loop-part-preserved c =
+    let g = c.args.g.now in
+    let popped : Work = record { todo = c.pop.new.self; found = c.loop-part.work.found; cuts = c.loop-part.work.cuts } in
+    let at = taken g c.loop-part.work popped c.in-Some.part c.in-Some.ensures.items refl refl c.loop-part.invariant.working in
+    elim c.match-branch-6.branch [
+      | in-None+in_ok-grow_block-in-None w ↦ rw (w.work-is, w.search-is) (record { working = w.in_ok-grow_block-in-None.ensures.working; room = w.in_ok-grow_block-in-None.ensures.room })
+      | in-Some-2+in_ok-push-in-Some-2+in_ok-push-in-Some-2-2 w ↦
+          let cuts = with_item c.loop-part.work.cuts c.in-Some.part.root true in
+          let mid : Work = record { todo = w.push-in-Some-2.new.self; found = c.loop-part.work.found; cuts = cuts } in
+          let last : Work = record { todo = w.push-in-Some-2-2.new.self; found = c.loop-part.work.found; cuts = cuts } in
+          let sides : AreSides g c.in-Some.part.nodes.items c.in-Some.part.root w.in-Some-2.sides.near.items w.in-Some-2.sides.far.items = rw c.deref.ensures.value at (rw w.in-Some-2.is at c.in_ok-sides_at.ensures.sides) in
+          let next = divided_at_root g c.in-Some.part w.in-Some-2.sides.near w.in-Some-2.sides.far popped mid last sides w.in_ok-push-in-Some-2.ensures.items refl refl w.in_ok-push-in-Some-2-2.ensures.items refl refl at.0 in
+          rw (w.work-is, w.search-is) (record { working = next.0; room = c.loop-part.invariant.room })
+    ]
 
 pub returns-clause-blocks : goal.returns-clause-blocks
-returns-clause-blocks c = working_end c.args.g.now c.loop-part.todo.items c.loop-part.found.items (omega (arith, c.in_default.ensures.cases.0)) c.loop-part.invariant
+returns-clause-blocks c = all_blocks c.args.g.now c.loop-part.work (omega (arith, c.in_default.ensures.cases.0)) c.loop-part.invariant.working
 
-pub returns-clause-few : goal.returns-clause-few
-returns-clause-few c = omega (arith, c.loop-part.invariant.few)
+pub returns-clause-cuts : goal.returns-clause-cuts
+returns-clause-cuts c = all_cuts c.args.g.now c.loop-part.work (omega (arith, c.in_default.ensures.cases.0)) c.loop-part.invariant.working

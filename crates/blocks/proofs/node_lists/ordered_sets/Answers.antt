@@ -3,7 +3,7 @@ use Rattle.std.specs.Global.{Global}
 use Rattle.std.proofs.lemmas.List.{take_all, take_more, length-map, get_or-map, length-take-le}
 use Rattle.std.proofs.lemmas.List.Elements.{All-contains}
 use Rattle.tomo_base.specs.NodeLists.{IsNodeSet}
-use Rattle.blocks.specs.Lists.{lists_of}
+use Rattle.tomo_base.specs.SetLists.{lists_of}
 use Rattle.blocks.proofs.SameSets.{contains_map}
 use Rattle.blocks.proofs.node_lists.ordered_sets.Goals as goal
 

@@ -1,5 +1,5 @@
 use Rattle.std.proofs.Common.{◌≡◌, take}
-use Rattle.blocks.specs.Lists.{lists_of}
+use Rattle.tomo_base.specs.SetLists.{lists_of}
 use Rattle.blocks.proofs.node_lists.ordered_sets.Given as goal
 
 -- the sets so far

@@ -5,7 +5,7 @@ use Rattle.std.proofs.lemmas.List.Filters.{dedup_is}
 use Rattle.std.proofs.lemmas.List.Kept.{Contains-from_dedup}
 use Rattle.std.proofs.lemmas.List.Sorted.{IsPermutation-map, IsPermutation-sym, Contains-permutation}
 use Rattle.tomo_base.specs.SetLists.{set_cmp}
-use Rattle.blocks.proofs.Vectors.{dedup-map, sorted-map, rises, keeps}
+use Rattle.tomo_base.proofs.Sorting.{dedup-map, sorted-map, rises, keeps}
 use Rattle.blocks.proofs.node_lists.sort_lists.Goals as goal
 
 pub returns-clause-ascending : goal.returns-clause-ascending

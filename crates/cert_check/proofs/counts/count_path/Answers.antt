@@ -3,7 +3,7 @@ use Rattle.std.proofs.lemmas.Bool.{both_ways}
 use Rattle.tomo_base.specs.Search.{entry_at}
 use Rattle.tomo_base.specs.Network.{linked}
 use Rattle.tomo_base.proofs.Links.{linked_below}
-use Rattle.simple_path.proofs.Paths.{walk_at}
+use Rattle.tomo_base.proofs.Paths.{walk_at}
 use Rattle.cert_check.proofs.Uses.{counted_none, counted_more, place_below, count_fits, get_same}
 use Rattle.cert_check.proofs.counts.count_path.Goals as goal
 

@@ -1,7 +1,7 @@
 use Rattle.std.proofs.Common.{refl, false, get_or, sym, ◌∙◌, arith}
 use Rattle.std.proofs.lemmas.Bool.{both_ways, eq-eqb, ne_eqb}
 use Rattle.tomo_base.specs.Search.{entry_at}
-use Rattle.simple_path.proofs.Paths.{new_more, none_twice_from, none_twice_at}
+use Rattle.tomo_base.proofs.Paths.{new_more, none_twice_from, none_twice_at}
 use Rattle.cert_check.proofs.Turns.{met_none, met_more}
 use Rattle.cert_check.proofs.paths.none_twice.Goals as goal
 

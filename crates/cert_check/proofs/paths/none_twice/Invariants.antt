@@ -1,5 +1,5 @@
 use Rattle.std.proofs.Common.{length}
-use Rattle.simple_path.proofs.Paths.{IsNewTo}
+use Rattle.tomo_base.proofs.Paths.{IsNewTo}
 use Rattle.cert_check.proofs.Turns.{IsMet}
 use Rattle.cert_check.proofs.paths.none_twice.Given as goal
 

@@ -1,7 +1,8 @@
 use Rattle.std.proofs.Common.{◌-◌, take, drop, length, ap, arith}
 use Rattle.unit_flow.specs.Flows.{later_of}
 use Rattle.cross_links.proofs.Turned.{length-turned_onto}
-use Rattle.cross_links.proofs.Naming.{nodes_more, rest_is}
+use Rattle.cross_links.proofs.Naming.{nodes_more}
+use Rattle.unit_flow.proofs.Loads.{take_later}
 use Rattle.cross_links.proofs.adding.four_paths.Goals as goal
 
 pub add_term-requires-clause-nodes : goal.add_term-requires-clause-nodes
@@ -25,7 +26,7 @@ add_term-requires-3-clause-nodes c = omega (
   length-turned_onto c.args.c.now c.args.a.now,
   length-turned_onto c.args.b.now c.args.d.now,
   length-turned_onto (later_of c.args.a.now) c.args.b.now,
-  ap length (rest_is c.args.a.now),
+  ap length (take_later c.args.a.now),
 )
 
 pub add_term-requires-4-clause-nodes : goal.add_term-requires-4-clause-nodes
@@ -39,6 +40,6 @@ add_term-requires-4-clause-nodes c = omega (
   length-turned_onto c.args.b.now c.args.d.now,
   length-turned_onto (later_of c.args.a.now) c.args.b.now,
   length-turned_onto (later_of c.args.c.now) c.args.d.now,
-  ap length (rest_is c.args.a.now),
-  ap length (rest_is c.args.c.now),
+  ap length (take_later c.args.a.now),
+  ap length (take_later c.args.c.now),
 )

@@ -1,7 +1,8 @@
 use Rattle.std.proofs.Common.{◌∷◌, [], length, ap, arith}
 use Rattle.unit_flow.specs.Flows.{later_of}
 use Rattle.cross_links.proofs.Turned.{length-turned_onto}
-use Rattle.cross_links.proofs.Naming.{nodes_more, rest_is}
+use Rattle.cross_links.proofs.Naming.{nodes_more}
+use Rattle.unit_flow.proofs.Loads.{take_later}
 use Rattle.cross_links.proofs.adding.three_paths.Goals as goal
 
 pub add_term-requires-2-clause-nodes : goal.add_term-requires-2-clause-nodes
@@ -22,5 +23,5 @@ add_term-requires-3-clause-nodes c = omega (
   length-turned_onto (c.args.w ∷ []) c.args.a.now,
   length-turned_onto (c.args.w ∷ []) c.args.b.now,
   length-turned_onto (later_of c.args.a.now) c.args.b.now,
-  ap length (rest_is c.args.a.now),
+  ap length (take_later c.args.a.now),
 )

@@ -12,8 +12,8 @@ use Rattle.cross_links.proofs.crossing.between.Goals as goal
 pub one_path-requires-clause-room : goal.one_path-requires-clause-room
 one_path-requires-clause-room c = let below = linked_below c.args.g.now.nodes c.args.g.now.links c.args.v c.args.w c.requires.graph c.requires.linked in omega (arith, below.0, c.requires.room)
 
-pub to_monitor-requires-clause-linked : goal.to_monitor-requires-clause-linked
-to_monitor-requires-clause-linked c = linked_comm c.args.g.now c.args.v c.args.w c.requires.linked
+pub to_monitor-requires-clause-link : goal.to_monitor-requires-clause-link
+to_monitor-requires-clause-link c = record { graph = c.requires.graph; linked = linked_comm c.args.g.now c.args.v c.args.w c.requires.linked; plain = sym c.in-true-false.ensures'; none = c.requires.none; nodes = c.requires.nodes }
 
 pub returns-in-true-true-clause-ok : goal.returns-in-true-true-clause-ok
 returns-in-true-true-clause-ok c =

@@ -2,10 +2,10 @@ use Rattle.std.proofs.Common.{◌≡◌, ◌<◌, ◌∷◌, [], true, All, map,
 use Rattle.std.proofs.lemmas.Result.{IfOk-weaker}
 use Rattle.tomo_base.specs.Sets.{has}
 use Rattle.tomo_base.proofs.Ascending.{All-has}
-use Rattle.unit_flow.specs.Flows.{task_of, IsFlow, first_of, last_of}
+use Rattle.unit_flow.specs.Flows.{IsFlow, first_of, last_of, routing_task}
 use Rattle.cross_links.specs.Ways.{onto}
-use Rattle.cross_links.proofs.Members.{has_first}
-use Rattle.cross_links.proofs.Tasks.{grown_kept, grown_more, order_many, order_has}
+use Rattle.tomo_base.proofs.Members.{has_first}
+use Rattle.cross_links.proofs.Tasks.{Grown, grown_kept, grown_more, order_many, order_has}
 use Rattle.cross_links.proofs.Second.{way_below, ends_below, ends_differ, targets_below, second_task, second_no_target, second_path, second_grows}
 use Rattle.cross_links.proofs.flows.second_ways.Goals as goal
 
@@ -42,7 +42,7 @@ flow_beside-requires-clause-differ c =
     ends_differ c.args.g.now (has c.args.m.now) c.args.v c.args.kept.now c.args.b.now c.args.c.now c.requires.graph c.requires.kept
 
 -- the task of the flow
-task : (c : goal.After-flow-2-1) → task_of c.in_ok-flow.flow ≡ onto c.args.g.now (has c.args.m.now) c.args.b.now c.args.c.now (first_of c.args.kept.now) c.args.v
+task : (c : goal.After-flow-2-1) → routing_task c.in_ok-flow.flow ≡ onto c.args.g.now (has c.args.m.now) c.args.b.now c.args.c.now (first_of c.args.kept.now) c.args.v
 task c = c.in_ok-flow.ensures.task ∙ second_task c.args.g.now (has c.args.m.now) c.args.v c.args.kept.now c.args.b.now c.args.c.now c.requires.graph c.requires.kept
     c.in_ok-targets.targets c.in_ok-targets.ensures.ends
 
@@ -59,25 +59,21 @@ grow-requires-clause-grows c =
     second_grows g m c.args.v c.args.kept.now c.args.b.now c.args.c.now c.requires.graph c.requires.kept c.requires.none c.keep.new.self
     (grown_kept (onto g m c.args.b.now c.args.c.now (first_of c.args.kept.now) c.args.v) c.in_ok-flow.flow c.keep.new.self c.args.kept.now same c.keep.ensures)
 
-pub returns-clause-flow : goal.returns-clause-flow
-returns-clause-flow c =
+-- the flow has the way that is kept, and one more
+two : (c : goal.After-drop-targets-inside-2) → Grown (onto c.args.g.now (has c.args.m.now) c.args.b.now c.args.c.now (first_of c.args.kept.now) c.args.v) 2 c.grow.new.flow
+two c =
     let g = c.args.g.now in
     let m = has c.args.m.now in
     let t = onto g m c.args.b.now c.args.c.now (first_of c.args.kept.now) c.args.v in
     let same = c.in_ok-flow.ensures.task ∙ second_task g m c.args.v c.args.kept.now c.args.b.now c.args.c.now c.requires.graph c.requires.kept c.in_ok-targets.targets c.in_ok-targets.ensures.ends in
     let one = grown_kept t c.in_ok-flow.flow c.keep.new.self c.args.kept.now same c.keep.ensures in
-    let two = grown_more t 1 c.keep.new.self c.grow.new.flow one c.in_ok-grow.ensures in
-    IfOk-weaker c.paths.result _ _ (λ p flow. subst (λ t. IsFlow t p) two.task flow) c.paths.ensures.flow
+    grown_more t 1 c.keep.new.self c.grow.new.flow one c.in_ok-grow.ensures
+
+pub returns-clause-flow : goal.returns-clause-flow
+returns-clause-flow c = IfOk-weaker c.paths.result _ _ (λ p flow. subst (λ t. IsFlow t p) (two c).task flow) c.paths.ensures.flow
 
 pub returns-clause-two : goal.returns-clause-two
-returns-clause-two c =
-    let g = c.args.g.now in
-    let m = has c.args.m.now in
-    let t = onto g m c.args.b.now c.args.c.now (first_of c.args.kept.now) c.args.v in
-    let same = c.in_ok-flow.ensures.task ∙ second_task g m c.args.v c.args.kept.now c.args.b.now c.args.c.now c.requires.graph c.requires.kept c.in_ok-targets.targets c.in_ok-targets.ensures.ends in
-    let one = grown_kept t c.in_ok-flow.flow c.keep.new.self c.args.kept.now same c.keep.ensures in
-    let two = grown_more t 1 c.keep.new.self c.grow.new.flow one c.in_ok-grow.ensures in
-    IfOk-weaker c.paths.result _ _ (λ p o. order_many c.grow.new.flow.paths p o ∙ two.many) c.paths.ensures.order
+returns-clause-two c = IfOk-weaker c.paths.result _ _ (λ p o. order_many c.grow.new.flow.paths p o ∙ (two c).many) c.paths.ensures.order
 
 pub returns-clause-end : goal.returns-clause-end
 returns-clause-end c =

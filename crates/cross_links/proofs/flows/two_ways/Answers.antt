@@ -7,21 +7,21 @@ use Rattle.cross_links.proofs.Tasks.{differ, beside_ok, beside_grows, grown_none
 use Rattle.cross_links.proofs.flows.two_ways.Goals as goal
 
 pub flow_beside-requires-clause-source : goal.flow_beside-requires-clause-source
-flow_beside-requires-clause-source c = (linked_below c.args.g.now.nodes c.args.g.now.links c.args.v c.args.w c.requires.graph c.requires.linked).0
+flow_beside-requires-clause-source c = (linked_below c.args.g.now.nodes c.args.g.now.links c.args.v c.args.w c.requires.link.graph c.requires.link.linked).0
 
 pub flow_beside-requires-clause-avoided : goal.flow_beside-requires-clause-avoided
-flow_beside-requires-clause-avoided c = (linked_below c.args.g.now.nodes c.args.g.now.links c.args.v c.args.w c.requires.graph c.requires.linked).1
+flow_beside-requires-clause-avoided c = (linked_below c.args.g.now.nodes c.args.g.now.links c.args.v c.args.w c.requires.link.graph c.requires.link.linked).1
 
 pub flow_beside-requires-clause-differ : goal.flow_beside-requires-clause-differ
-flow_beside-requires-clause-differ c = differ c.args.g.now c.requires.graph c.args.v c.args.w c.requires.linked
+flow_beside-requires-clause-differ c = differ c.args.g.now c.requires.link.graph c.args.v c.args.w c.requires.link.linked
 
 pub grow-requires-clause-grows : goal.grow-requires-clause-grows
 grow-requires-clause-grows c =
     let g = c.args.g.now in
     let m = has c.args.m.now in
     let t = beside g m c.args.v c.args.w in
-    let below = linked_below g.nodes g.links c.args.v c.args.w c.requires.graph c.requires.linked in
-    beside_grows g m c.requires.none m c.args.v c.args.w 0 c.in_ok-flow.flow (beside_ok g m c.requires.graph c.args.v c.args.w c.requires.linked c.requires.plain) below.1 (λ z l h. h) (omega arith)
+    let below = linked_below g.nodes g.links c.args.v c.args.w c.requires.link.graph c.requires.link.linked in
+    beside_grows g m c.requires.link.none m c.args.v c.args.w 0 c.in_ok-flow.flow (beside_ok g m c.requires.link.graph c.args.v c.args.w c.requires.link.linked c.requires.link.plain) below.1 (λ z l h. h) (omega arith)
     (grown_none t c.in_ok-flow.flow c.in_ok-flow.ensures)
 
 pub grow-requires-2-clause-grows : goal.grow-requires-2-clause-grows
@@ -29,8 +29,8 @@ grow-requires-2-clause-grows c =
     let g = c.args.g.now in
     let m = has c.args.m.now in
     let t = beside g m c.args.v c.args.w in
-    let below = linked_below g.nodes g.links c.args.v c.args.w c.requires.graph c.requires.linked in
-    beside_grows g m c.requires.none m c.args.v c.args.w 1 c.grow.new.flow (beside_ok g m c.requires.graph c.args.v c.args.w c.requires.linked c.requires.plain) below.1 (λ z l h. h) (omega arith)
+    let below = linked_below g.nodes g.links c.args.v c.args.w c.requires.link.graph c.requires.link.linked in
+    beside_grows g m c.requires.link.none m c.args.v c.args.w 1 c.grow.new.flow (beside_ok g m c.requires.link.graph c.args.v c.args.w c.requires.link.linked c.requires.link.plain) below.1 (λ z l h. h) (omega arith)
     (grown_more t 0 c.in_ok-flow.flow c.grow.new.flow (grown_none t c.in_ok-flow.flow c.in_ok-flow.ensures) c.in_ok-grow.ensures)
 
 pub returns-clause-two : goal.returns-clause-two

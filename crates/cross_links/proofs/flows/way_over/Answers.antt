@@ -8,21 +8,21 @@ use Rattle.cross_links.proofs.Cases.{first_way}
 use Rattle.cross_links.proofs.flows.way_over.Goals as goal
 
 pub flow_beside-requires-clause-source : goal.flow_beside-requires-clause-source
-flow_beside-requires-clause-source c = (linked_below c.args.g.now.nodes c.args.g.now.links c.args.v c.args.w c.requires.graph c.requires.linked).1
+flow_beside-requires-clause-source c = (linked_below c.args.g.now.nodes c.args.g.now.links c.args.v c.args.w c.requires.link.graph c.requires.link.linked).1
 
 pub flow_beside-requires-clause-avoided : goal.flow_beside-requires-clause-avoided
-flow_beside-requires-clause-avoided c = (linked_below c.args.g.now.nodes c.args.g.now.links c.args.v c.args.w c.requires.graph c.requires.linked).0
+flow_beside-requires-clause-avoided c = (linked_below c.args.g.now.nodes c.args.g.now.links c.args.v c.args.w c.requires.link.graph c.requires.link.linked).0
 
 pub flow_beside-requires-clause-differ : goal.flow_beside-requires-clause-differ
-flow_beside-requires-clause-differ c = λ e. differ c.args.g.now c.requires.graph c.args.v c.args.w c.requires.linked (sym e)
+flow_beside-requires-clause-differ c = λ e. differ c.args.g.now c.requires.link.graph c.args.v c.args.w c.requires.link.linked (sym e)
 
 pub grow-requires-clause-grows : goal.grow-requires-clause-grows
 grow-requires-clause-grows c =
     let g = c.args.g.now in
     let m = has c.args.m.now in
-    let below = linked_below g.nodes g.links c.args.v c.args.w c.requires.graph c.requires.linked in
-    beside_grows g m c.requires.none m c.args.w c.args.v 0 c.in_ok-flow.flow
-    (beside_ok g m c.requires.graph c.args.w c.args.v (linked_comm g c.args.v c.args.w c.requires.linked) c.requires.plain_neighbour) below.0 (λ z l h. h) (omega arith)
+    let below = linked_below g.nodes g.links c.args.v c.args.w c.requires.link.graph c.requires.link.linked in
+    beside_grows g m c.requires.link.none m c.args.w c.args.v 0 c.in_ok-flow.flow
+    (beside_ok g m c.requires.link.graph c.args.w c.args.v (linked_comm g c.args.v c.args.w c.requires.link.linked) c.requires.plain_neighbour) below.0 (λ z l h. h) (omega arith)
     (grown_none (beside g m c.args.w c.args.v) c.in_ok-flow.flow c.in_ok-flow.ensures)
 
 pub path-requires : goal.path-requires
@@ -44,7 +44,7 @@ made c =
     let m = has c.args.m.now in
     let t = beside g m c.args.w c.args.v in
     let one = grown_more t 0 c.in_ok-flow.flow c.grow.new.flow (grown_none t c.in_ok-flow.flow c.in_ok-flow.ensures) c.in_ok-grow.ensures in
-    first_way g m c.args.v c.args.w c.in_ok-ways.ways c.requires.linked c.requires.plain (differ g c.requires.graph c.args.v c.args.w c.requires.linked)
+    first_way g m c.args.v c.args.w c.in_ok-ways.ways c.requires.link.linked c.requires.link.plain (differ g c.requires.link.graph c.args.v c.args.w c.requires.link.linked)
     (subst (λ t. IsFlow t c.in_ok-ways.ways) one.task c.in_ok-ways.ensures.flow) (omega (arith, order_many c.grow.new.flow.paths c.in_ok-ways.ways c.in_ok-ways.ensures.order, one.many))
 
 pub returns-clause-flow : goal.returns-clause-flow

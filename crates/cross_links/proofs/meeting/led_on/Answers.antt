@@ -3,7 +3,8 @@ use Rattle.std.proofs.lemmas.Iterator.{YieldsList-from_slice, IsFirst-from_posit
 use Rattle.tomo_base.specs.Sets.{has}
 use Rattle.unit_flow.specs.Flows.{last_of}
 use Rattle.unit_flow.proofs.Loads.{last_at}
-use Rattle.cross_links.proofs.Found.{FindsFirst, found_at, not_found, rest_from}
+use Rattle.cross_links.proofs.Found.{FindsFirst, found_at, not_found}
+use Rattle.std.proofs.lemmas.List.{take_rest}
 use Rattle.cross_links.proofs.meeting.led_on.Goals.{in-Some+in_ok-extend_from_slice, in_default}
 use Rattle.cross_links.proofs.meeting.led_on.Goals as goal
 
@@ -23,7 +24,7 @@ returns c =
             take i path,
             drop (i + 1) path,
             at ∙ ap (λ y. take i path ++ y ∷ drop (i + 1) path) is_end,
-            ap (λ v. v.items) w.whole-is ∙ (w.in_ok-extend_from_slice.ensures.items ∙ ap₂ (λ a b. a ++ b) copied (rest_from path (i + 1))),
+            ap (λ v. v.items) w.whole-is ∙ (w.in_ok-extend_from_slice.ensures.items ∙ ap₂ (λ a b. a ++ b) copied (take_rest path (i + 1))),
           )
       | in_default w ↦ inl (ap (has path) (sym is_end) ∙ not_found path end c.position.result w.in_default.is found, ap (λ v. v.items) w.whole-is ∙ copied)
     ]

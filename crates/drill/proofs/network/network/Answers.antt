@@ -2,12 +2,12 @@ use Rattle.std.proofs.Common.{◌≡◌, length, ap, ◌∙◌, refl, arith}
 use Rattle.std.proofs.lemmas.Result.{IfOk-weaker}
 use Rattle.tomo_base.specs.Network.{Network}
 use Rattle.drill.specs.Draws.{state}
-use Rattle.drill.specs.Generated.{links_of}
+use Rattle.drill.specs.Generated.{drawn_links}
 use Rattle.drill.proofs.Growth.{IsGrown, grown_by, never_none, state_more, drawn_count}
 use Rattle.drill.proofs.network.network.Goals as goal
 
 pub loop-k-init : goal.loop-k-init
-unfolding state links_of
+unfolding state drawn_links
 loop-k-init c = (refl, c.in_ok-network.ensures)
 
 -- the link that was found makes the network grow as it is drawn

@@ -4,11 +4,12 @@ use Rattle.std.specs.List.{AllWithin}
 use Rattle.std.proofs.lemmas.Bool.{false≢true}
 use Rattle.tomo_base.specs.Search.{mark_of, entry_at}
 use Rattle.ear_order.specs.Ears.{IsEar}
-use Rattle.ear_order.specs.Turns.{Zone, IsTurn, IsBetter}
-use Rattle.ear_order.proofs.Marking.{marked_below}
+use Rattle.ear_order.specs.Turns.{Zone, IsTurn, IsBetter, IsSpot}
+use Rattle.tomo_base.proofs.Marks.{marked_below}
 use Rattle.ear_order.proofs.Spots.{ear_below}
 use Rattle.ear_order.proofs.Results.{if_ok_two}
 use Rattle.ear_order.proofs.Bettering.{spots_three, offer_three, is_better}
+use Rattle.ear_order.proofs.candidates.around.Goals.{After-nodes-nodes}
 use Rattle.ear_order.proofs.candidates.around.Goals as goal
 
 pub first_spot-requires-clause-nodes : goal.first_spot-requires-clause-nodes
@@ -20,21 +21,19 @@ last_spot-requires-clause-nodes c = ear_below c.args.g.now c.nodes-nodes.ensures
 pub widened-requires-clause-nodes : goal.widened-requires-clause-nodes
 widened-requires-clause-nodes c = λ k l. omega (arith, ear_below c.args.g.now c.nodes-nodes.ensures.graph (mark_of c.args.old.now) c.args.ear.now c.requires.ear k l, c.requires.marks)
 
-pub unreachable-requires : goal.unreachable-requires
-unreachable-requires c =
-    let g = c.args.g.now in
+-- three places of the ear touch the part, so some place does
+some_spot : (c : After-nodes-nodes) → (i : ℕ) × IsSpot c.args.g.now (mark_of c.args.part.now) c.args.ear.now i
+some_spot c =
     let t = c.requires.turn in
-    let s = spots_three g c.nodes-nodes.ensures.graph c.requires.three (mark_of c.args.old.now) (λ v h. subst (λ n. v < n) c.requires.size (marked_below c.args.old.now v h)) c.requires.two c.args.ear.now c.requires.ear
+    let s = spots_three c.args.g.now c.nodes-nodes.ensures.graph c.requires.three (mark_of c.args.old.now) (λ v h. subst (λ n. v < n) c.requires.size (marked_below c.args.old.now v h)) c.requires.two c.args.ear.now c.requires.ear
     (mark_of c.args.part.now) t.0 t.1 t.2 t.3 (λ w o y. false≢true (c.requires.none w o y)) in
-    false≢true (c.in_default.ensures.none s.0 s.5)
+    (s.0, s.5)
+
+pub unreachable-requires : goal.unreachable-requires
+unreachable-requires c = let s = some_spot (goal.at.unreachable-requires c).After-nodes-nodes in false≢true (c.in_default.ensures.none s.0 s.1)
 
 pub unreachable-requires-in_default-last_spot : goal.unreachable-requires-in_default-last_spot
-unreachable-requires-in_default-last_spot c =
-    let g = c.args.g.now in
-    let t = c.requires.turn in
-    let s = spots_three g c.nodes-nodes.ensures.graph c.requires.three (mark_of c.args.old.now) (λ v h. subst (λ n. v < n) c.requires.size (marked_below c.args.old.now v h)) c.requires.two c.args.ear.now c.requires.ear
-    (mark_of c.args.part.now) t.0 t.1 t.2 t.3 (λ w o y. false≢true (c.requires.none w o y)) in
-    false≢true (c.in_default-last_spot.ensures.none s.0 s.5)
+unreachable-requires-in_default-last_spot c = let s = some_spot (goal.at.unreachable-requires-in_default-last_spot c).After-nodes-nodes in false≢true (c.in_default-last_spot.ensures.none s.0 s.1)
 
 pub cross-requires-clause-off : goal.cross-requires-clause-off
 cross-requires-clause-off c =

@@ -7,9 +7,9 @@ use Rattle.tomo_base.specs.Search.{mark_of, entry_at}
 use Rattle.ear_order.specs.Crossing.{Crosses}
 use Rattle.ear_order.specs.Ears.{IsEar}
 use Rattle.ear_order.specs.Turns.{IsTurn, IsBetter}
-use Rattle.ear_order.proofs.Marking.{marked_below}
+use Rattle.tomo_base.proofs.Marks.{marked_below}
 use Rattle.ear_order.proofs.Results.{if_ok_two}
-use Rattle.ear_order.proofs.Bettering.{offer_one, is_better, order_below, none_touched}
+use Rattle.ear_order.proofs.Bettering.{touch_read, offer_one, is_better, order_below, none_touched}
 use Rattle.ear_order.proofs.candidates.better.Goals as goal
 
 pub first_near-requires-clause-nodes : goal.first_near-requires-clause-nodes
@@ -45,19 +45,14 @@ first_near-requires-2-clause-nodes c =
 
 pub cross-requires-clause-crosses : goal.cross-requires-clause-crosses
 cross-requires-clause-crosses c =
-    let g = c.args.g.now in
     let D = mark_of c.args.old.now in
-    let part = c.requires.order in
-    let order = c.args.part.now.order.items in
     let K = mark_of c.args.part.now.inside.items in
     let t = c.requires.turn in
-    let p = c.in-Some.first.place in
-    let q = c.in-Some-first_near.field-0.place in
-    let o = offer_one g c.nodes-none.ensures.graph c.requires.three D (λ v h. subst (λ n. v < n) c.requires.size (marked_below c.args.old.now v h)) c.requires.two c.args.ear.items c.requires.ear
+    let o = offer_one c.args.g.now c.nodes-none.ensures.graph c.requires.three D (λ v h. subst (λ n. v < n) c.requires.size (marked_below c.args.old.now v h)) c.requires.two c.args.ear.items c.requires.ear
     K t.0 t.1 t.2 t.3 c.in-Some.first.node c.in-Some-first_near.field-0.node c.in-Some.ensures.marked c.in-Some-first_near.ensures.marked c.in-Some-first_near.ensures.differs
-    (entry_at order p, part.2.only p (subst (λ xs. p < length xs) c.deref.ensures.value c.in-Some.ensures.place), subst (λ xs. linked g (entry_at xs p) c.in-Some.first.node ≡ true) c.deref.ensures.value c.in-Some.ensures.link)
-    (entry_at order q, part.2.only q (subst (λ xs. q < length xs) c.deref-2.ensures.value c.in-Some-first_near.ensures.place), subst (λ xs. linked g (entry_at xs q) c.in-Some-first_near.field-0.node ≡ true) c.deref-2.ensures.value c.in-Some-first_near.ensures.link) in
-    subst (λ z. Crosses g D (mark_of z) c.in-Some.first.node) (sym c.deref-in-Some-first_near.ensures.value) o.crosses
+    (touch_read c.args.g.now K c.args.part.now.order.items _ _ _ c.requires.order.2.only c.deref.ensures.value c.in-Some.ensures.place c.in-Some.ensures.link)
+    (touch_read c.args.g.now K c.args.part.now.order.items _ _ _ c.requires.order.2.only c.deref-2.ensures.value c.in-Some-first_near.ensures.place c.in-Some-first_near.ensures.link) in
+    subst (λ z. Crosses c.args.g.now D (mark_of z) c.in-Some.first.node) (sym c.deref-in-Some-first_near.ensures.value) o.crosses
 
 pub to_end-requires-clause-single : goal.to_end-requires-clause-single
 to_end-requires-clause-single c = λ w o y.
@@ -68,20 +63,15 @@ to_end-requires-clause-single c = λ w o y.
 
 pub returns-in-Some-first_near : goal.returns-in-Some-first_near
 returns-in-Some-first_near c =
-    let g = c.args.g.now in
     let D = mark_of c.args.old.now in
-    let part = c.requires.order in
-    let order = c.args.part.now.order.items in
     let K = mark_of c.args.part.now.inside.items in
-    let p = c.in-Some.first.place in
-    let q = c.in-Some-first_near.field-0.place in
-    if_ok_two c.cross.result (λ (e : Vec ℕ Global). IsEar g D e.items) (λ (e : Vec ℕ Global). AllWithin (λ v. mark_of c.deref-in-Some-first_near.result.now v ≡ true) e.items 1 (length e.items - 1))
-    (λ (e : Vec ℕ Global). (R C : ℕ → Bool) (u : ℕ) → IsTurn g D c.args.ear.items K R C u → IsBetter g D R C e.items)
-    (λ e ear through R C u t. is_better g D R C K c.in-Some.first.node e.items
-    (offer_one g c.nodes-none.ensures.graph c.requires.three D (λ v h. subst (λ n. v < n) c.requires.size (marked_below c.args.old.now v h)) c.requires.two c.args.ear.items c.requires.ear
+    if_ok_two c.cross.result (λ (e : Vec ℕ Global). IsEar c.args.g.now D e.items) (λ (e : Vec ℕ Global). AllWithin (λ v. mark_of c.deref-in-Some-first_near.result.now v ≡ true) e.items 1 (length e.items - 1))
+    (λ (e : Vec ℕ Global). (R C : ℕ → Bool) (u : ℕ) → IsTurn c.args.g.now D c.args.ear.items K R C u → IsBetter c.args.g.now D R C e.items)
+    (λ e ear through R C u t. is_better c.args.g.now D R C K c.in-Some.first.node e.items
+    (offer_one c.args.g.now c.nodes-none.ensures.graph c.requires.three D (λ v h. subst (λ n. v < n) c.requires.size (marked_below c.args.old.now v h)) c.requires.two c.args.ear.items c.requires.ear
     K R C u t c.in-Some.first.node c.in-Some-first_near.field-0.node c.in-Some.ensures.marked c.in-Some-first_near.ensures.marked c.in-Some-first_near.ensures.differs
-    (entry_at order p, part.2.only p (subst (λ xs. p < length xs) c.deref.ensures.value c.in-Some.ensures.place), subst (λ xs. linked g (entry_at xs p) c.in-Some.first.node ≡ true) c.deref.ensures.value c.in-Some.ensures.link)
-    (entry_at order q, part.2.only q (subst (λ xs. q < length xs) c.deref-2.ensures.value c.in-Some-first_near.ensures.place), subst (λ xs. linked g (entry_at xs q) c.in-Some-first_near.field-0.node ≡ true) c.deref-2.ensures.value c.in-Some-first_near.ensures.link))
+    (touch_read c.args.g.now K c.args.part.now.order.items _ _ _ c.requires.order.2.only c.deref.ensures.value c.in-Some.ensures.place c.in-Some.ensures.link)
+    (touch_read c.args.g.now K c.args.part.now.order.items _ _ _ c.requires.order.2.only c.deref-2.ensures.value c.in-Some-first_near.ensures.place c.in-Some-first_near.ensures.link))
     ear (subst (λ z. AllWithin (λ v. mark_of z v ≡ true) e.items 1 (length e.items - 1)) c.deref-in-Some-first_near.ensures.value through))
     c.cross.ensures.ear c.cross.ensures.through
 

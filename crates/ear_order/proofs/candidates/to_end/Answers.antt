@@ -7,7 +7,7 @@ use Rattle.tomo_base.specs.Search.{mark_of, entry_at}
 use Rattle.ear_order.specs.Crossing.{Crosses}
 use Rattle.ear_order.specs.Ears.{IsEar}
 use Rattle.ear_order.specs.Turns.{IsTurn, IsBetter}
-use Rattle.ear_order.proofs.Marking.{marked_below}
+use Rattle.tomo_base.proofs.Marks.{marked_below}
 use Rattle.ear_order.proofs.Lists.{ear_at, different_at}
 use Rattle.ear_order.proofs.Spots.{ear_below, either_ear}
 use Rattle.ear_order.proofs.Results.{if_ok_two}

@@ -1,7 +1,7 @@
 use Rattle.std.proofs.Common.{◌≡◌, ◌<◌, false, length, replicate, All, sym, subst, ap, ◌∙◌}
 use Rattle.std.proofs.lemmas.List.{length-replicate}
 use Rattle.tomo_base.specs.Search.{mark_of}
-use Rattle.ear_order.proofs.Marking.{bare_mark}
+use Rattle.tomo_base.proofs.Marks.{bare_mark}
 use Rattle.ear_order.proofs.InEars.{item_of, marks_ear, marks_no_ear}
 use Rattle.ear_order.proofs.marks.in_some_ear.Goals as goal
 

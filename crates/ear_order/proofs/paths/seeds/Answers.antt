@@ -1,6 +1,6 @@
 use Rattle.std.proofs.Common.{length, refl}
 use Rattle.tomo_base.specs.declared.graph.Hop.{Hop}
-use Rattle.tomo_base.proofs.Searching.{hops_below}
+use Rattle.tomo_base.proofs.Rows.{hops_below}
 use Rattle.ear_order.proofs.Reaching.{seeding_none, seeding_past, seeding_more, seeding_done}
 use Rattle.ear_order.proofs.paths.seeds.Goals as goal
 use Rattle.ear_order.proofs.paths.seeds.Goals.{then-zone-hop+in_ok-push, else-zone-hop}

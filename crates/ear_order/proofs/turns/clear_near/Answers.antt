@@ -1,7 +1,7 @@
 use Rattle.std.proofs.Common.{refl, ◌∙◌, arith, length-set}
 use Rattle.tomo_base.specs.declared.graph.Hop.{Hop}
 use Rattle.tomo_base.specs.Search.{mark_of}
-use Rattle.tomo_base.proofs.Searching.{hops_below}
+use Rattle.tomo_base.proofs.Rows.{hops_below}
 use Rattle.ear_order.proofs.Turning.{clearing_none, clearing_more, clearing_done}
 use Rattle.ear_order.proofs.turns.clear_near.Goals as goal
 

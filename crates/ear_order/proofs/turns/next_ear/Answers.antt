@@ -1,12 +1,10 @@
-use Rattle.std.proofs.Common.{◌≡◌, ◌-◌, ◌<◌, ◌≤◌, ℕ, Vec, All, length, inl, sym, subst, ap, ◌∙◌, arith}
+use Rattle.std.proofs.Common.{◌<◌, ℕ, Vec, All, length, inl, sym, subst, ap, ◌∙◌, arith}
 use Rattle.std.specs.Global.{Global}
-use Rattle.std.proofs.lemmas.List.{get_or_read}
 use Rattle.std.proofs.lemmas.Result.{IfOk-weaker}
-use Rattle.tomo_base.specs.Search.{mark_of, entry_at}
-use Rattle.tomo_base.proofs.Ascending.{place_in}
-use Rattle.ear_order.specs.Ears.{GoesOn}
-use Rattle.ear_order.specs.Turns.{IsPart, ContinuesWith}
-use Rattle.ear_order.proofs.Turning.{rest_size, u_left, all_left, alone_left, last_left, order_left}
+use Rattle.tomo_base.specs.Search.{mark_of}
+use Rattle.ear_order.specs.Ears.{LeavesConnected}
+use Rattle.ear_order.specs.Turns.{ContinuesWith}
+use Rattle.ear_order.proofs.Turning.{rest_size, u_left, part_read, part_some, all_left, alone_left, last_read, order_left}
 use Rattle.ear_order.proofs.turns.next_ear.Goals as goal
 
 pub part_of-requires-clause-marks : goal.part_of-requires-clause-marks
@@ -17,58 +15,39 @@ part_of-requires-clause-free c = ap (λ xs. mark_of xs c.args.u) c.deref.ensures
 
 pub last_ear-requires-clause-alone : goal.last_ear-requires-clause-alone
 last_ear-requires-clause-alone c =
-    let p : IsPart c.args.g.now (mark_of c.in_ok-rest.rest.items) c.args.u c.in_ok-far.far.order.items (mark_of c.in_ok-far.far.inside.items) =
-    subst (λ xs. IsPart c.args.g.now (mark_of xs) c.args.u c.in_ok-far.far.order.items (mark_of c.in_ok-far.far.inside.items)) c.deref.ensures.value c.in_ok-far.ensures.part in
+    let p = part_read c.args.g.now c.nodes-nodes.ensures.graph c.args.old.now c.in_ok-rest.rest.items c.args.u c.requires c.in_ok-rest.ensures _ c.in_ok-far.far.order.items (mark_of c.in_ok-far.far.inside.items) c.deref.ensures.value c.in_ok-far.ensures.part in
     alone_left c.args.g.now c.nodes-nodes.ensures.graph c.args.old.now c.in_ok-rest.rest.items c.args.u c.requires c.in_ok-rest.ensures c.in_ok-far.far.order.items (mark_of c.in_ok-far.far.inside.items) p (omega (arith, c.if-count-eq1.true, c.len-count.ensures, c.in_ok-far.far.order.ok))
 
 pub overflow_sub-count : goal.overflow_sub-count
 overflow_sub-count c =
-    let p : IsPart c.args.g.now (mark_of c.in_ok-rest.rest.items) c.args.u c.in_ok-far.far.order.items (mark_of c.in_ok-far.far.inside.items) =
-    subst (λ xs. IsPart c.args.g.now (mark_of xs) c.args.u c.in_ok-far.far.order.items (mark_of c.in_ok-far.far.inside.items)) c.deref.ensures.value c.in_ok-far.ensures.part in
-    let k = place_in c.in_ok-far.far.order.items c.args.u (p.listed c.args.u p.holds) in
-    omega (arith, k.1, c.len-count.ensures, c.in_ok-far.far.order.ok)
+    let p = part_read c.args.g.now c.nodes-nodes.ensures.graph c.args.old.now c.in_ok-rest.rest.items c.args.u c.requires c.in_ok-rest.ensures _ c.in_ok-far.far.order.items (mark_of c.in_ok-far.far.inside.items) c.deref.ensures.value c.in_ok-far.ensures.part in
+    omega (arith, part_some c.args.g.now c.nodes-nodes.ensures.graph c.args.old.now c.in_ok-rest.rest.items c.args.u c.requires c.in_ok-rest.ensures c.in_ok-far.far.order.items (mark_of c.in_ok-far.far.inside.items) p, c.len-count.ensures, c.in_ok-far.far.order.ok)
 
 pub index-x-requires : goal.index-x-requires
 index-x-requires c =
-    let p : IsPart c.args.g.now (mark_of c.in_ok-rest.rest.items) c.args.u c.in_ok-far.far.order.items (mark_of c.in_ok-far.far.inside.items) =
-    subst (λ xs. IsPart c.args.g.now (mark_of xs) c.args.u c.in_ok-far.far.order.items (mark_of c.in_ok-far.far.inside.items)) c.deref.ensures.value c.in_ok-far.ensures.part in
-    let k = place_in c.in_ok-far.far.order.items c.args.u (p.listed c.args.u p.holds) in
-    omega (arith, k.1, c.len-count.ensures, c.in_ok-far.far.order.ok)
+    let p = part_read c.args.g.now c.nodes-nodes.ensures.graph c.args.old.now c.in_ok-rest.rest.items c.args.u c.requires c.in_ok-rest.ensures _ c.in_ok-far.far.order.items (mark_of c.in_ok-far.far.inside.items) c.deref.ensures.value c.in_ok-far.ensures.part in
+    omega (arith, part_some c.args.g.now c.nodes-nodes.ensures.graph c.args.old.now c.in_ok-rest.rest.items c.args.u c.requires c.in_ok-rest.ensures c.in_ok-far.far.order.items (mark_of c.in_ok-far.far.inside.items) p, c.len-count.ensures, c.in_ok-far.far.order.ok)
 
 pub candidate-requires-clause-node : goal.candidate-requires-clause-node
 candidate-requires-clause-node c =
-    let p : IsPart c.args.g.now (mark_of c.in_ok-rest.rest.items) c.args.u c.in_ok-far.far.order.items (mark_of c.in_ok-far.far.inside.items) =
-    subst (λ xs. IsPart c.args.g.now (mark_of xs) c.args.u c.in_ok-far.far.order.items (mark_of c.in_ok-far.far.inside.items)) c.deref.ensures.value c.in_ok-far.ensures.part in
-    let order = c.in_ok-far.far.order.items in
-    let k = place_in order c.args.u (p.listed c.args.u p.holds) in
-    let within : c.len-count.result - 1 < length order = omega (arith, k.1, c.len-count.ensures, c.in_ok-far.far.order.ok) in
-    let later : 1 ≤ c.len-count.result - 1 = omega (arith, k.1, c.len-count.ensures, c.in_ok-far.far.order.ok, c.if-count-eq1.false) in
-    let x_is : c.index-x.result.now ≡ entry_at order (c.len-count.result - 1) = get_or_read order _ _ within c.index-x.ensures 0 in
-    rw (c.deref-2.ensures.value, x_is) (last_left c.args.g.now c.nodes-nodes.ensures.graph c.args.old.now c.in_ok-rest.rest.items c.args.u c.requires c.in_ok-rest.ensures c.in_ok-far.far.order.items (mark_of c.in_ok-far.far.inside.items) p (c.len-count.result - 1) later within).0
+    let p = part_read c.args.g.now c.nodes-nodes.ensures.graph c.args.old.now c.in_ok-rest.rest.items c.args.u c.requires c.in_ok-rest.ensures _ c.in_ok-far.far.order.items (mark_of c.in_ok-far.far.inside.items) c.deref.ensures.value c.in_ok-far.ensures.part in
+    rw c.deref-2.ensures.value (last_read c.args.g.now c.nodes-nodes.ensures.graph c.args.old.now c.in_ok-rest.rest.items c.args.u c.requires c.in_ok-rest.ensures c.in_ok-far.far.order.items (mark_of c.in_ok-far.far.inside.items) p c.len-count.result _ (omega (arith, c.len-count.ensures, c.in_ok-far.far.order.ok)) c.if-count-eq1.false c.index-x.ensures).0
 
 pub candidate-requires-clause-other : goal.candidate-requires-clause-other
 candidate-requires-clause-other c =
-    let p : IsPart c.args.g.now (mark_of c.in_ok-rest.rest.items) c.args.u c.in_ok-far.far.order.items (mark_of c.in_ok-far.far.inside.items) =
-    subst (λ xs. IsPart c.args.g.now (mark_of xs) c.args.u c.in_ok-far.far.order.items (mark_of c.in_ok-far.far.inside.items)) c.deref.ensures.value c.in_ok-far.ensures.part in
-    let order = c.in_ok-far.far.order.items in
-    let k = place_in order c.args.u (p.listed c.args.u p.holds) in
-    let within : c.len-count.result - 1 < length order = omega (arith, k.1, c.len-count.ensures, c.in_ok-far.far.order.ok) in
-    let later : 1 ≤ c.len-count.result - 1 = omega (arith, k.1, c.len-count.ensures, c.in_ok-far.far.order.ok, c.if-count-eq1.false) in
-    let x_is : c.index-x.result.now ≡ entry_at order (c.len-count.result - 1) = get_or_read order _ _ within c.index-x.ensures 0 in
-    λ same. (last_left c.args.g.now c.nodes-nodes.ensures.graph c.args.old.now c.in_ok-rest.rest.items c.args.u c.requires c.in_ok-rest.ensures c.in_ok-far.far.order.items (mark_of c.in_ok-far.far.inside.items) p (c.len-count.result - 1) later within).1 (sym x_is ∙ same)
+    let p = part_read c.args.g.now c.nodes-nodes.ensures.graph c.args.old.now c.in_ok-rest.rest.items c.args.u c.requires c.in_ok-rest.ensures _ c.in_ok-far.far.order.items (mark_of c.in_ok-far.far.inside.items) c.deref.ensures.value c.in_ok-far.ensures.part in
+    (last_read c.args.g.now c.nodes-nodes.ensures.graph c.args.old.now c.in_ok-rest.rest.items c.args.u c.requires c.in_ok-rest.ensures c.in_ok-far.far.order.items (mark_of c.in_ok-far.far.inside.items) p c.len-count.result _ (omega (arith, c.len-count.ensures, c.in_ok-far.far.order.ok)) c.if-count-eq1.false c.index-x.ensures).1
 
 pub bettered-requires-clause-nodes : goal.bettered-requires-clause-nodes
 bettered-requires-clause-nodes c =
-    let p : IsPart c.args.g.now (mark_of c.in_ok-rest.rest.items) c.args.u c.in_ok-far.far.order.items (mark_of c.in_ok-far.far.inside.items) =
-    subst (λ xs. IsPart c.args.g.now (mark_of xs) c.args.u c.in_ok-far.far.order.items (mark_of c.in_ok-far.far.inside.items)) c.deref.ensures.value c.in_ok-far.ensures.part in
+    let p = part_read c.args.g.now c.nodes-nodes.ensures.graph c.args.old.now c.in_ok-rest.rest.items c.args.u c.requires c.in_ok-rest.ensures _ c.in_ok-far.far.order.items (mark_of c.in_ok-far.far.inside.items) c.deref.ensures.value c.in_ok-far.ensures.part in
     subst (All (λ v. v < c.args.g.now.nodes)) (sym c.deref-4.ensures.value) (order_left c.args.g.now c.nodes-nodes.ensures.graph c.args.old.now c.in_ok-rest.rest.items c.args.u c.requires c.in_ok-rest.ensures c.in_ok-far.far.order.items (mark_of c.in_ok-far.far.inside.items) p)
 
 pub bettered-requires-clause-all : goal.bettered-requires-clause-all
 bettered-requires-clause-all c =
-    let p : IsPart c.args.g.now (mark_of c.in_ok-rest.rest.items) c.args.u c.in_ok-far.far.order.items (mark_of c.in_ok-far.far.inside.items) =
-    subst (λ xs. IsPart c.args.g.now (mark_of xs) c.args.u c.in_ok-far.far.order.items (mark_of c.in_ok-far.far.inside.items)) c.deref.ensures.value c.in_ok-far.ensures.part in
+    let p = part_read c.args.g.now c.nodes-nodes.ensures.graph c.args.old.now c.in_ok-rest.rest.items c.args.u c.requires c.in_ok-rest.ensures _ c.in_ok-far.far.order.items (mark_of c.in_ok-far.far.inside.items) c.deref.ensures.value c.in_ok-far.ensures.part in
     rw (c.deref-3.ensures.value, c.deref-4.ensures.value) (all_left c.args.g.now c.nodes-nodes.ensures.graph c.args.old.now c.in_ok-rest.rest.items c.args.u c.requires c.in_ok-rest.ensures c.in_ok-far.far.order.items (mark_of c.in_ok-far.far.inside.items) p)
 
 pub returns-clause-next : goal.returns-clause-next
-returns-clause-next c = IfOk-weaker c.bettered.result (λ (e : Vec ℕ Global). GoesOn c.args.g.now c.args.u (mark_of c.args.old.now) e.items) (λ (e : Vec ℕ Global). ContinuesWith c.args.g.now c.args.u (mark_of c.args.old.now) e.items)
+returns-clause-next c = IfOk-weaker c.bettered.result (λ (e : Vec ℕ Global). LeavesConnected c.args.g.now c.args.u (mark_of c.args.old.now) e.items) (λ (e : Vec ℕ Global). ContinuesWith c.args.g.now c.args.u (mark_of c.args.old.now) e.items)
     (λ e h. inl h) c.bettered.ensures.goes_on

@@ -1,8 +1,36 @@
-use Rattle.std.proofs.Common.{◌+◌, length, ap, ◌∙◌, arith}
+use Rattle.std.proofs.Common.{◌≡◌, ◌+◌, ◌-◌, ◌<◌, ◌≤◌, ℕ, Bool, true, All, length, take, ap, ◌∙◌, arith}
 use Rattle.std.proofs.lemmas.List.{length-replicate}
+use Rattle.tomo_base.specs.Sets.{has}
+use Rattle.tomo_base.specs.Walks.{NoneTwice}
 use Rattle.tomo_base.specs.Search.{entry_at}
+use Rattle.ear_order.specs.Ears.{Ears, IsEar, ends_of}
+use Rattle.ear_order.specs.Turns.{ContinuesWith}
+use Rattle.ear_order.proofs.Ordering.{after}
 use Rattle.indep_trees.proofs.Placements.{ear_of, ends_placed, ear_facts, placed_none, placed_more, placed_all, zeros}
+use Rattle.indep_trees.proofs.placing.placed.Goals.{After-ear, In_ok-ear}
 use Rattle.indep_trees.proofs.placing.placed.Goals as goal
+
+-- what the ears before place i have, and the two first nodes
+abbrev placed_before : Ears → ℕ → ℕ → ℕ → ℕ → Bool
+placed_before o r t i = after (ends_of r t) (take i o.list)
+
+-- the given ear begins and ends at placed nodes, and the order goes on with it
+given : (c : After-ear) → IsEar c.args.ears.now.graph (placed_before c.args.ears.now c.args.r c.args.t c.loop-i.i) c.ear.result.now
+    × ContinuesWith c.args.ears.now.graph c.args.ears.now.u (placed_before c.args.ears.now c.args.r c.args.t c.loop-i.i) c.ear.result.now
+given c = ear_of c.args.ears.now c.requires.order c.args.r c.args.t c.requires.r c.requires.t c.loop-i.i (omega (arith, c.loop-i-test.true, c.len-i-end.ensures.len)) c.ear.result.now c.ear.ensures
+
+-- its two ends are placed, and differ
+ends : (c : After-ear) → let e = c.ear.result.now in let order = c.loop-i.order.items in
+    (has order (entry_at e 0) ≡ true) × (has order (entry_at e (length e - 1)) ≡ true) × (entry_at e 0 ≡ entry_at e (length e - 1) → ⊥)
+ends c = ends_placed c.args.ears.now.graph c.args.r c.args.t c.args.ears.now.u _ c.loop-i.order.items (entry_at c.loop-i.low.items) (entry_at c.loop-i.high.items) (entry_at c.loop-i.numbers.items) (c.loop-i.i + 1)
+    c.ear.result.now c.loop-i.invariant.3 (given c).0
+
+-- the ear that is put has two different nodes or more, all of them nodes of the graph
+facts : (c : In_ok-ear) → let e = c.in_ok-ear.ear.items in
+    IsEar c.args.ears.now.graph (placed_before c.args.ears.now c.args.r c.args.t c.loop-i.i) e × (2 ≤ length e) × NoneTwice e × All (λ v. v < c.args.ears.now.graph.nodes) e
+facts c =
+    let old = ear_of c.args.ears.now c.requires.order c.args.r c.args.t c.requires.r c.requires.t c.loop-i.i (omega (arith, c.loop-i-test.true, c.len-i-end.ensures.len)) c.ear.result.now c.ear.ensures in
+    ear_facts c.args.ears.now.graph c.requires.order.graph _ c.in_ok-ear.ear.items c.ear.result.now c.in_ok-ear.ensures.ear old.0
 
 pub loop-i-init : goal.loop-i-init
 loop-i-init c =
@@ -16,87 +44,60 @@ loop-i-init c =
 
 pub faced-requires-clause-some : goal.faced-requires-clause-some
 faced-requires-clause-some c =
-    let old = ear_of c.args.ears.now c.requires.order c.args.r c.args.t c.requires.r c.requires.t c.loop-i.i (omega (arith, c.loop-i-test.true, c.len-i-end.ensures.len)) c.ear.result.now c.ear.ensures in
-    omega (arith, old.0.three)
+    omega (arith, (given (goal.at.faced-requires-clause-some c).After-ear).0.three)
 
 pub faced-requires-clause-first : goal.faced-requires-clause-first
 faced-requires-clause-first c =
-    let old = ear_of c.args.ears.now c.requires.order c.args.r c.args.t c.requires.r c.requires.t c.loop-i.i (omega (arith, c.loop-i-test.true, c.len-i-end.ensures.len)) c.ear.result.now c.ear.ensures in
-    let ends = ends_placed c.args.ears.now.graph c.args.r c.args.t c.args.ears.now.u _ c.loop-i.order.items (entry_at c.loop-i.low.items) (entry_at c.loop-i.high.items) (entry_at c.loop-i.numbers.items) (c.loop-i.i + 1) c.ear.result.now c.loop-i.invariant.3 old.0 in
-    rw c.deref.ensures.value ends.0
+    rw c.deref.ensures.value (ends (goal.at.faced-requires-clause-first c).After-ear).0
 
 pub faced-requires-clause-last : goal.faced-requires-clause-last
 faced-requires-clause-last c =
-    let old = ear_of c.args.ears.now c.requires.order c.args.r c.args.t c.requires.r c.requires.t c.loop-i.i (omega (arith, c.loop-i-test.true, c.len-i-end.ensures.len)) c.ear.result.now c.ear.ensures in
-    let ends = ends_placed c.args.ears.now.graph c.args.r c.args.t c.args.ears.now.u _ c.loop-i.order.items (entry_at c.loop-i.low.items) (entry_at c.loop-i.high.items) (entry_at c.loop-i.numbers.items) (c.loop-i.i + 1) c.ear.result.now c.loop-i.invariant.3 old.0 in
-    rw c.deref.ensures.value ends.1
+    rw c.deref.ensures.value (ends (goal.at.faced-requires-clause-last c).After-ear).1
 
 pub faced-requires-clause-differ : goal.faced-requires-clause-differ
 faced-requires-clause-differ c =
-    let old = ear_of c.args.ears.now c.requires.order c.args.r c.args.t c.requires.r c.requires.t c.loop-i.i (omega (arith, c.loop-i-test.true, c.len-i-end.ensures.len)) c.ear.result.now c.ear.ensures in
-    let ends = ends_placed c.args.ears.now.graph c.args.r c.args.t c.args.ears.now.u _ c.loop-i.order.items (entry_at c.loop-i.low.items) (entry_at c.loop-i.high.items) (entry_at c.loop-i.numbers.items) (c.loop-i.i + 1) c.ear.result.now c.loop-i.invariant.3 old.0 in
-    ends.2
+    (ends (goal.at.faced-requires-clause-differ c).After-ear).2
 
 pub widened-requires-clause-long : goal.widened-requires-clause-long
 widened-requires-clause-long c =
-    let old = ear_of c.args.ears.now c.requires.order c.args.r c.args.t c.requires.r c.requires.t c.loop-i.i (omega (arith, c.loop-i-test.true, c.len-i-end.ensures.len)) c.ear.result.now c.ear.ensures in
-    let facts = ear_facts c.args.ears.now.graph c.requires.order.graph _ c.in_ok-ear.ear.items c.ear.result.now c.in_ok-ear.ensures.ear old.0 in
-    rw c.deref-in-loop-i-2.ensures.value facts.1
+    rw c.deref-in-loop-i-2.ensures.value (facts (goal.at.widened-requires-clause-long c).In_ok-ear).1
 
 pub widened-requires-clause-first : goal.widened-requires-clause-first
 widened-requires-clause-first c =
-    let old = ear_of c.args.ears.now c.requires.order c.args.r c.args.t c.requires.r c.requires.t c.loop-i.i (omega (arith, c.loop-i-test.true, c.len-i-end.ensures.len)) c.ear.result.now c.ear.ensures in
-    let facts = ear_facts c.args.ears.now.graph c.requires.order.graph _ c.in_ok-ear.ear.items c.ear.result.now c.in_ok-ear.ensures.ear old.0 in
-    let ends = ends_placed c.args.ears.now.graph c.args.r c.args.t c.args.ears.now.u _ c.loop-i.order.items (entry_at c.loop-i.low.items) (entry_at c.loop-i.high.items) (entry_at c.loop-i.numbers.items) (c.loop-i.i + 1) c.in_ok-ear.ear.items c.loop-i.invariant.3 facts.0 in
+    let ends = ends_placed c.args.ears.now.graph c.args.r c.args.t c.args.ears.now.u _ c.loop-i.order.items (entry_at c.loop-i.low.items) (entry_at c.loop-i.high.items) (entry_at c.loop-i.numbers.items) (c.loop-i.i + 1) c.in_ok-ear.ear.items c.loop-i.invariant.3 (facts (goal.at.widened-requires-clause-first c).In_ok-ear).0 in
     rw (c.deref-in-loop-i.ensures.value, c.deref-in-loop-i-2.ensures.value) ends.0
 
 pub put-requires-clause-long : goal.put-requires-clause-long
 put-requires-clause-long c =
-    let old = ear_of c.args.ears.now c.requires.order c.args.r c.args.t c.requires.r c.requires.t c.loop-i.i (omega (arith, c.loop-i-test.true, c.len-i-end.ensures.len)) c.ear.result.now c.ear.ensures in
-    let facts = ear_facts c.args.ears.now.graph c.requires.order.graph _ c.in_ok-ear.ear.items c.ear.result.now c.in_ok-ear.ensures.ear old.0 in
-    rw c.deref-in-loop-i-3.ensures.value facts.1
+    rw c.deref-in-loop-i-3.ensures.value (facts (goal.at.put-requires-clause-long c).In_ok-ear).1
 
 pub put-requires-clause-nodes : goal.put-requires-clause-nodes
 put-requires-clause-nodes c =
-    let old = ear_of c.args.ears.now c.requires.order c.args.r c.args.t c.requires.r c.requires.t c.loop-i.i (omega (arith, c.loop-i-test.true, c.len-i-end.ensures.len)) c.ear.result.now c.ear.ensures in
-    let facts = ear_facts c.args.ears.now.graph c.requires.order.graph _ c.in_ok-ear.ear.items c.ear.result.now c.in_ok-ear.ensures.ear old.0 in
-    rw c.deref-in-loop-i-3.ensures.value (λ k d l. omega (arith, facts.3 k d l, c.requires.nodes, c.loop-i.invariant.0))
+    rw c.deref-in-loop-i-3.ensures.value (λ k d l. omega (arith, (facts (goal.at.put-requires-clause-nodes c).In_ok-ear).3 k d l, c.requires.nodes, c.loop-i.invariant.0))
 
 pub put-requires-clause-different : goal.put-requires-clause-different
 put-requires-clause-different c =
-    let old = ear_of c.args.ears.now c.requires.order c.args.r c.args.t c.requires.r c.requires.t c.loop-i.i (omega (arith, c.loop-i-test.true, c.len-i-end.ensures.len)) c.ear.result.now c.ear.ensures in
-    let facts = ear_facts c.args.ears.now.graph c.requires.order.graph _ c.in_ok-ear.ear.items c.ear.result.now c.in_ok-ear.ensures.ear old.0 in
-    rw c.deref-in-loop-i-3.ensures.value facts.2
+    rw c.deref-in-loop-i-3.ensures.value (facts (goal.at.put-requires-clause-different c).In_ok-ear).2
 
 pub put-requires-in-loop-i-clause-long : goal.put-requires-in-loop-i-clause-long
 put-requires-in-loop-i-clause-long c =
-    let old = ear_of c.args.ears.now c.requires.order c.args.r c.args.t c.requires.r c.requires.t c.loop-i.i (omega (arith, c.loop-i-test.true, c.len-i-end.ensures.len)) c.ear.result.now c.ear.ensures in
-    let facts = ear_facts c.args.ears.now.graph c.requires.order.graph _ c.in_ok-ear.ear.items c.ear.result.now c.in_ok-ear.ensures.ear old.0 in
-    rw c.deref-in-loop-i-4.ensures.value facts.1
+    rw c.deref-in-loop-i-4.ensures.value (facts (goal.at.put-requires-in-loop-i-clause-long c).In_ok-ear).1
 
 pub put-requires-in-loop-i-clause-nodes : goal.put-requires-in-loop-i-clause-nodes
 put-requires-in-loop-i-clause-nodes c =
-    let old = ear_of c.args.ears.now c.requires.order c.args.r c.args.t c.requires.r c.requires.t c.loop-i.i (omega (arith, c.loop-i-test.true, c.len-i-end.ensures.len)) c.ear.result.now c.ear.ensures in
-    let facts = ear_facts c.args.ears.now.graph c.requires.order.graph _ c.in_ok-ear.ear.items c.ear.result.now c.in_ok-ear.ensures.ear old.0 in
-    rw c.deref-in-loop-i-4.ensures.value (λ k d l. omega (arith, facts.3 k d l, c.requires.nodes, c.loop-i.invariant.1))
+    rw c.deref-in-loop-i-4.ensures.value (λ k d l. omega (arith, (facts (goal.at.put-requires-in-loop-i-clause-nodes c).In_ok-ear).3 k d l, c.requires.nodes, c.loop-i.invariant.1))
 
 pub put-requires-in-loop-i-clause-different : goal.put-requires-in-loop-i-clause-different
 put-requires-in-loop-i-clause-different c =
-    let old = ear_of c.args.ears.now c.requires.order c.args.r c.args.t c.requires.r c.requires.t c.loop-i.i (omega (arith, c.loop-i-test.true, c.len-i-end.ensures.len)) c.ear.result.now c.ear.ensures in
-    let facts = ear_facts c.args.ears.now.graph c.requires.order.graph _ c.in_ok-ear.ear.items c.ear.result.now c.in_ok-ear.ensures.ear old.0 in
-    rw c.deref-in-loop-i-4.ensures.value facts.2
+    rw c.deref-in-loop-i-4.ensures.value (facts (goal.at.put-requires-in-loop-i-clause-different c).In_ok-ear).2
 
 pub fill-requires-clause-long : goal.fill-requires-clause-long
 fill-requires-clause-long c =
-    let old = ear_of c.args.ears.now c.requires.order c.args.r c.args.t c.requires.r c.requires.t c.loop-i.i (omega (arith, c.loop-i-test.true, c.len-i-end.ensures.len)) c.ear.result.now c.ear.ensures in
-    let facts = ear_facts c.args.ears.now.graph c.requires.order.graph _ c.in_ok-ear.ear.items c.ear.result.now c.in_ok-ear.ensures.ear old.0 in
-    rw c.deref-in-loop-i-5.ensures.value facts.1
+    rw c.deref-in-loop-i-5.ensures.value (facts (goal.at.fill-requires-clause-long c).In_ok-ear).1
 
 pub fill-requires-clause-nodes : goal.fill-requires-clause-nodes
 fill-requires-clause-nodes c =
-    let old = ear_of c.args.ears.now c.requires.order c.args.r c.args.t c.requires.r c.requires.t c.loop-i.i (omega (arith, c.loop-i-test.true, c.len-i-end.ensures.len)) c.ear.result.now c.ear.ensures in
-    let facts = ear_facts c.args.ears.now.graph c.requires.order.graph _ c.in_ok-ear.ear.items c.ear.result.now c.in_ok-ear.ensures.ear old.0 in
-    rw c.deref-in-loop-i-5.ensures.value (λ k d l. omega (arith, facts.3 k d l, c.requires.nodes, c.loop-i.invariant.2))
+    rw c.deref-in-loop-i-5.ensures.value (λ k d l. omega (arith, (facts (goal.at.fill-requires-clause-nodes c).In_ok-ear).3 k d l, c.requires.nodes, c.loop-i.invariant.2))
 
 pub loop-i-preserved : goal.loop-i-preserved
 loop-i-preserved c = (

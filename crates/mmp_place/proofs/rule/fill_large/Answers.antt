@@ -9,14 +9,10 @@ fill-requires c = rw c.at-set.ensures (c.requires c.loop-i.i [] (omega (arith, c
 
 pub loop-i-preserved : goal.loop-i-preserved
 loop-i-preserved c =
-    let g = c.args.g.now in
-    let sets = c.args.sets.now in
-    let i = c.loop-i.i in
-    let x = c.at-set.result.now in
-    let m = has c.args.m.now in
-    let w = has c.loop-i.m in
-    let l : i < length sets = omega (arith, c.loop-i-test.true, c.len-i-end.ensures) in
+    let l : c.loop-i.i < length c.args.sets.now = omega (arith, c.loop-i-test.true, c.len-i-end.ensures) in
     elim c.if-len-gt-SMALL.branch [
-      | then-len-gt-SMALL+in_ok-fill s ↦ rw s.m-is (fill_large_more g sets i x m w (has s.fill.new.m) l c.at-set.ensures (omega (arith, s.if-len-gt-SMALL.true, c.len.ensures.len)) c.loop-i.invariant s.in_ok-fill.ensures)
-      | else-len-gt-SMALL s ↦ rw s.m-is (fill_large_past g sets i x m w l c.at-set.ensures (omega (arith, s.if-len-gt-SMALL.false, c.len.ensures.len)) c.loop-i.invariant)
+      | then-len-gt-SMALL+in_ok-fill s ↦ rw s.m-is (fill_large_more c.args.g.now c.args.sets.now c.loop-i.i c.at-set.result.now (has c.args.m.now) (has c.loop-i.m) (has s.fill.new.m) l c.at-set.ensures
+          (omega (arith, s.if-len-gt-SMALL.true, c.len.ensures.len)) c.loop-i.invariant s.in_ok-fill.ensures)
+      | else-len-gt-SMALL s ↦ rw s.m-is (fill_large_past c.args.g.now c.args.sets.now c.loop-i.i c.at-set.result.now (has c.args.m.now) (has c.loop-i.m) l c.at-set.ensures
+          (omega (arith, s.if-len-gt-SMALL.false, c.len.ensures.len)) c.loop-i.invariant)
     ]

@@ -5,6 +5,7 @@ use Rattle.tomo_base.proofs.Ascending.{All-from_has}
 use Rattle.mmp_place.specs.Rule.{filled_each, IsPlacedByRule}
 use Rattle.mmp_place.specs.Steps.{FillsThreeBlocks, large}
 use Rattle.mmp_place.proofs.Gathering.{placed_by_steps, placed_nodes}
+use Rattle.mmp_place.proofs.Whole.{placed_is_lowest}
 use Rattle.mmp_place.proofs.rule.mmp.Goals as goal
 
 pub fill_large-requires : goal.fill_large-requires
@@ -30,7 +31,7 @@ pub returns-clause-placed : goal.returns-clause-placed
 returns-clause-placed c = steps c
 
 pub returns-clause-lowest : goal.returns-clause-lowest
-returns-clause-lowest c = c.placed_is_lowest.ensures c.args.g.now (has c.fill.new.m) c.nodes-nodes.ensures.graph c.requires.connected c.requires.three (steps c)
+returns-clause-lowest c = placed_is_lowest c.args.g.now (has c.fill.new.m) c.nodes-nodes.ensures.graph c.requires.connected c.requires.three (steps c)
 
 pub returns-clause-nodes : goal.returns-clause-nodes
 returns-clause-nodes c =

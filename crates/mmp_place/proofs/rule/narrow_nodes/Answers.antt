@@ -1,6 +1,6 @@
 use Rattle.std.proofs.Common.{ℕ, nat_lt, Bool, arith, ◌∙◌, lt-ltb, le-ltb}
 use Rattle.tomo_base.specs.Sets.{has, degree}
-use Rattle.tomo_base.proofs.Ascending.{below-none, below-more, below-less}
+use Rattle.tomo_base.proofs.Ranges.{below-none, below-more, below-less}
 use Rattle.tomo_base.proofs.Touching.{length-hops}
 use Rattle.mmp_place.proofs.rule.narrow_nodes.Goals as goal
 use Rattle.mmp_place.proofs.rule.narrow_nodes.Goals.{then-hops-lt-WIDE+in_ok-insert, else-hops-lt-WIDE}

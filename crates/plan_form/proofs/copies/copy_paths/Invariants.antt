@@ -1,5 +1,5 @@
 use Rattle.std.proofs.Common.{◌≡◌, take}
-use Rattle.plan_form.specs.Steps.{lists_of}
+use Rattle.tomo_base.specs.SetLists.{lists_of}
 use Rattle.plan_form.proofs.copies.copy_paths.Given as goal
 
 abbrev pub invariant-loop-path : goal.invariant-loop-path

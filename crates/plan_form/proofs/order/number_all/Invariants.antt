@@ -1,5 +1,6 @@
 use Rattle.std.proofs.Common.{take}
-use Rattle.plan_form.specs.Steps.{lists_of, AreNumbers}
+use Rattle.plan_form.specs.Steps.{AreNumbers}
+use Rattle.tomo_base.specs.SetLists.{lists_of}
 use Rattle.plan_form.proofs.order.number_all.Given as goal
 
 abbrev pub invariant-loop-i : goal.invariant-loop-i

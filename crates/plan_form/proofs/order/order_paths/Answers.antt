@@ -1,7 +1,7 @@
 use Rattle.std.proofs.Common.{◌≡◌, ℕ, ◌<◌, ◌^◌, List, length, ap, ◌∙◌, arith}
 use Rattle.std.proofs.lemmas.List.{length-map}
 use Rattle.plan_form.specs.Building.{turned}
-use Rattle.plan_form.specs.Steps.{lists_of}
+use Rattle.tomo_base.specs.SetLists.{lists_of}
 use Rattle.plan_form.proofs.Built.{ordered}
 use Rattle.plan_form.proofs.order.order_paths.Goals as goal
 

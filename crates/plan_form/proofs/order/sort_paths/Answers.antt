@@ -5,7 +5,8 @@ use Rattle.std.proofs.lemmas.List.Filters.{dedup_is}
 use Rattle.std.proofs.lemmas.List.Kept.{Contains-from_dedup}
 use Rattle.std.proofs.lemmas.List.Sorted.{IsPermutation-map, IsPermutation-sym, Contains-permutation}
 use Rattle.plan_form.specs.Order.{path_cmp}
-use Rattle.plan_form.proofs.Sorting.{dedup-map, sorted-map, rises, keeps, nodes_in-sorted}
+use Rattle.plan_form.proofs.Sorting.{nodes_in-sorted}
+use Rattle.tomo_base.proofs.Sorting.{dedup-map, sorted-map, rises, keeps}
 use Rattle.plan_form.proofs.order.sort_paths.Goals as goal
 
 pub returns-clause-ascending : goal.returns-clause-ascending

@@ -2,7 +2,7 @@ use Rattle.std.proofs.Common.{◌^◌, ◌<◌, IfOk}
 use Rattle.plan_form.specs.PlanRows.{row_count}
 use Rattle.planner.specs.Planned.{IsPlanned}
 use Rattle.planner.proofs.Buildable.{measured_buildable}
-use Rattle.planner.proofs.Whole.{built_made, all_planned}
+use Rattle.planner.proofs.Whole.{all_planned}
 use Rattle.planner.proofs.plans.make_plan.Goals as goal
 
 pub mmp-requires-clause-connected : goal.mmp-requires-clause-connected
@@ -19,9 +19,8 @@ promised : (c : goal.After-drop-monitors-inside-2) → IfOk c.build.result (IsPl
 promised c =
     let placed = rw c.graph.ensures.graph at c.in_ok-monitors.ensures in
     let held = rw c.graph-2.ensures.graph at c.in_ok-pockets.ensures in
-    all_planned c.args.t.now c.in_ok-monitors.monitors c.in_ok-pockets.pockets c.graph.ensures.topology placed.nodes placed.ascending placed.lowest placed.placed held.homes held.shows held.needs c.build.result
-    (built_made c.args.t.now c.build.result c.in_ok-monitors.monitors c.in_ok-pockets.pockets c.in_ok-made.made.pool c.in_ok-made.made.recipes c.in_ok-made.ensures.measures
-    c.build.ensures.formed c.build.ensures.names c.build.ensures.links c.build.ensures.monitors c.build.ensures.pockets c.build.ensures.built c.build.ensures.few c.build.ensures.paths c.build.ensures.recipes)
+    all_planned c.args.t.now c.in_ok-monitors.monitors c.in_ok-pockets.pockets c.graph.ensures.topology placed.nodes placed.ascending placed.lowest placed.placed held.homes held.shows held.needs
+    c.in_ok-made.made.pool c.in_ok-made.made.recipes c.in_ok-made.ensures.measures c.build.result c.build.ensures
 
 pub returns-clause-planned : goal.returns-clause-planned
 returns-clause-planned c = (promised c).0

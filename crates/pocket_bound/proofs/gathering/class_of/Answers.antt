@@ -1,5 +1,5 @@
 use Rattle.std.proofs.Common.{◌==◌, slice_index}
-use Rattle.tomo_base.proofs.Ascending.{below-none}
+use Rattle.tomo_base.proofs.Ranges.{below-none}
 use Rattle.pocket_bound.proofs.gathering.class_of.Goals as goal
 
 pub loop-u-init : goal.loop-u-init

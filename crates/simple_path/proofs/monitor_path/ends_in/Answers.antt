@@ -1,6 +1,7 @@
 use Rattle.std.proofs.Common.{sym, ◌∙◌}
 use Rattle.tomo_base.specs.Sets.{has}
-use Rattle.simple_path.proofs.Paths.{ends_at, ends_from, not_empty}
+use Rattle.tomo_base.proofs.Paths.{ends_at, ends_from}
+use Rattle.tomo_base.proofs.Lists.{not_empty}
 use Rattle.simple_path.proofs.monitor_path.ends_in.Goals as goal
 
 pub returns-then-has : goal.returns-then-has

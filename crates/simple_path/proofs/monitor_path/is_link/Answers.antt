@@ -1,5 +1,5 @@
 use Rattle.std.proofs.Common.{sym, ◌∙◌}
-use Rattle.simple_path.proofs.Paths.{is_some_linked, not_linked}
+use Rattle.tomo_base.proofs.Rows.{is_some_linked, not_linked}
 use Rattle.simple_path.proofs.monitor_path.is_link.Goals as goal
 
 pub returns-then-a-count : goal.returns-then-a-count

@@ -1,6 +1,6 @@
 use Rattle.std.proofs.Common.{refl, ◌≡◌, suc, ◌-◌, false, sym, arith}
 use Rattle.std.proofs.lemmas.Bool.{both_ways}
-use Rattle.simple_path.proofs.Paths.{walk_from, walk_at, walk_more}
+use Rattle.tomo_base.proofs.Paths.{walk_from, walk_at, walk_more}
 use Rattle.simple_path.proofs.monitor_path.is_walk.Goals as goal
 
 pub returns-then-not-is_link : goal.returns-then-not-is_link

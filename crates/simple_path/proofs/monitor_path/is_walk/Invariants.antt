@@ -1,4 +1,4 @@
-use Rattle.simple_path.proofs.Paths.{IsWalkTo}
+use Rattle.tomo_base.proofs.Paths.{IsWalkTo}
 use Rattle.simple_path.proofs.monitor_path.is_walk.Given as goal
 
 -- the nodes so far are linked

@@ -1,4 +1,4 @@
-use Rattle.simple_path.proofs.Paths.{IsNewTo}
+use Rattle.tomo_base.proofs.Paths.{IsNewTo}
 use Rattle.simple_path.proofs.monitor_path.none_twice.Given as goal
 
 -- the nodes so far differ from those before them

@@ -2,7 +2,7 @@ use Rattle.std.proofs.Common.{arith, sym, ap, subst, ◌∙◌}
 use Rattle.tomo_base.specs.Walks.{IsWalk, NoneTwice}
 use Rattle.tomo_base.specs.Identify as spec
 use Rattle.simple_path.proofs.Along.{summed, next_linked, all_summed, first_and_rest}
-use Rattle.simple_path.proofs.Short.{steps_short}
+use Rattle.tomo_base.proofs.Paths.{steps_short}
 use Rattle.simple_path.proofs.sums.sum_along.Goals as goal
 
 pub delay_of-sum-requires-clause-linked : goal.delay_of-sum-requires-clause-linked

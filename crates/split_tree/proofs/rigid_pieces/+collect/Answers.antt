@@ -1,7 +1,7 @@
 use Rattle.std.proofs.Common.{◌≡◌, ◌++◌, ◌∙◌, take, ap, sym}
 use Rattle.std.specs.List.{flat_map}
 use Rattle.std.proofs.lemmas.List.{take_all}
-use Rattle.blocks.specs.Lists.{lists_of}
+use Rattle.tomo_base.specs.SetLists.{lists_of}
 use Rattle.split_tree.specs.Trees.{rigids_of}
 use Rattle.split_tree.proofs.Rows.{rigids_split}
 use Rattle.split_tree.proofs.rigid_pieces.+collect.Goals as goal

@@ -1,6 +1,6 @@
 use Rattle.std.proofs.Common.{◌≡◌, ◌++◌, take}
 use Rattle.std.specs.List.{flat_map}
-use Rattle.blocks.specs.Lists.{lists_of}
+use Rattle.tomo_base.specs.SetLists.{lists_of}
 use Rattle.split_tree.specs.Trees.{rigids_of}
 use Rattle.split_tree.proofs.rigid_pieces.+collect.Given as goal
 

@@ -1,12 +1,11 @@
 use Rattle.std.proofs.Common.{◌≡◌, ℕ, ◌+◌, ◌≤◌, ◌∙◌, ◌++◌, [], List, length, ap, sym, subst, arith, Vec, Contains}
 use Rattle.std.specs.Global.{Global}
 use Rattle.std.proofs.lemmas.List.{length-map}
+use Rattle.tomo_base.specs.Limits.{graph_node_limit}
 use Rattle.tomo_base.specs.Sets.{has}
 use Rattle.tomo_base.specs.Blocks.{IsThreeBlockOf}
-use Rattle.tomo_base.specs.NodeLists.{node_limit}
 use Rattle.tomo_base.proofs.Ascending.{length-node_set}
-use Rattle.tomo_base.specs.SetLists.{AreAllSets}
-use Rattle.blocks.specs.Lists.{lists_of}
+use Rattle.tomo_base.specs.SetLists.{AreAllSets, lists_of}
 use Rattle.blocks.proofs.SameSets.{sets_same, node_sets, node_set}
 use Rattle.split_tree.specs.Trees.{piece_of, rigids_of}
 use Rattle.split_tree.proofs.Sounding.{tree_three_blocks, rigid_sets, piece_is}
@@ -31,7 +30,7 @@ ordered_sets-requires-clause-few c =
     let same : length (lists_of c.collect.new.found.items) ≡ length (rigids_of t) = ap length (collected _ c.collect.new.found.items (rigids_of t) c.new-found.ensures.items c.in_ok-collect.ensures) in
     let many : length (lists_of c.collect.new.found.items) ≡ length c.collect.new.found.items = length-map c.collect.new.found.items (λ (v : Vec ℕ Global). v.items) in
     let few : length (rigids_of t) + 2 ≤ length (piece_of t).nodes = few_rigids n t facts.facts facts.three in
-    let nodes : length (piece_of t).nodes ≤ node_limit = length-node_set (piece_of t).nodes (node_set n (piece_of t).nodes facts.few (piece_is n t facts.facts).set) in
+    let nodes : length (piece_of t).nodes ≤ graph_node_limit = length-node_set (piece_of t).nodes (node_set n (piece_of t).nodes facts.few (piece_is n t facts.facts).set) in
     omega arith
 
 pub returns-clause-three_blocks : goal.returns-clause-three_blocks

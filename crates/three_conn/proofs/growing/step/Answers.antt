@@ -1,23 +1,100 @@
-use Rattle.std.proofs.Common.{◌≡◌, ◌<◌, [], true, inl, arith}
-use Rattle.std.proofs.lemmas.List.Elements.{All-cons}
+use Rattle.std.proofs.Common.{◌≤◌, length, inl, arith, [], ◌∷◌}
 use Rattle.tomo_base.specs.Search.{mark_of}
-use Rattle.three_conn.proofs.Marking.{mark_below}
-use Rattle.three_conn.proofs.Steps.{free_in, few_gates}
+use Rattle.gate_search.specs.Gates.{IsGateOf, IsGate}
+use Rattle.gate_search.specs.Stops.{IsAtGate, IsGateless}
+use Rattle.gate_search.proofs.Trees.{ranked_in, first_in, is_tree, ranked_free}
+use Rattle.gate_search.proofs.Stopping.{searched_room}
+use Rattle.gate_search.proofs.Marks.{mark_below}
+use Rattle.three_conn.proofs.Steps.{few_gates, gate_end, meeting_held}
 use Rattle.three_conn.proofs.growing.step.Goals as goal
 
-pub returns-in_default : goal.returns-in_default
-returns-in_default c =
-    few_gates c.args.g.now c.args.free.now c.args.x c.in_ok-found.found c.nodes-n.ensures.graph c.in_ok-found.ensures (mark_of c.args.nodes.now)
-    (λ v t. omega (arith, mark_below c.args.nodes.now v t, c.requires.marks)) c.nodes-n.result c.nodes-n.result (rw c.deref.ensures.value at c.in_default.ensures.none) (inl c.nodes-n.ensures.nodes) (inl c.nodes-n.ensures.nodes)
+pub returns-in_default-clause-growth : goal.returns-in_default-clause-growth
+returns-in_default-clause-growth c =
+    let g = c.args.g.now in
+    let w = mark_of c.args.nodes.now in
+    let s = c.start_at_gate.new.self in
+    let end : IsGateless g w (mark_of c.args.free.now) s c.args.x = rw c.in_default.is at c.in_ok-first.ensures.none in
+    few_gates g c.args.free.now s.start s.head s.found c.nodes-n.ensures.graph c.in_ok-first.ensures.search.search w (λ v t. omega (arith, mark_below c.args.nodes.now v t, c.requires.marks))
+    c.nodes-n.result c.nodes-n.result end.all (rw (← c.nodes-n.ensures.nodes) at end.passed) (inl c.nodes-n.ensures.nodes) (inl c.nodes-n.ensures.nodes)
 
-pub sweep-requires-2-clause-nodes : goal.sweep-requires-2-clause-nodes
-sweep-requires-2-clause-nodes c =
-    let gate = rw c.deref.ensures.value at c.in-Some.ensures.found in
-    let is_free = free_in c.args.g.now c.args.free.now c.args.x c.in_ok-found.found c.nodes-n.ensures.graph c.in_ok-found.ensures c.in-Some.gate.inner gate.0 in
-    All-cons (λ v. v < c.args.g.now.nodes) c.in-Some.gate.inner [] (omega (arith, mark_below c.args.free.now c.in-Some.gate.inner is_free, c.requires.free)) (λ k d l. absurd (omega (arith, l)))
+pub returns-in_default-clause-room : goal.returns-in_default-clause-room
+returns-in_default-clause-room c = let s = c.start_at_gate.new.self in searched_room c.args.g.now c.args.free.now (s.start ∷ []) s.head s.found c.in_ok-first.ensures.search.search
 
-pub sweep-requires-2-clause-free : goal.sweep-requires-2-clause-free
-sweep-requires-2-clause-free c =
-    let gate = rw c.deref.ensures.value at c.in-Some.ensures.found in
-    All-cons (λ v. mark_of c.args.free.now v ≡ true) c.in-Some.gate.inner []
-    (free_in c.args.g.now c.args.free.now c.args.x c.in_ok-found.found c.nodes-n.ensures.graph c.in_ok-found.ensures c.in-Some.gate.inner gate.0) (λ k d l. absurd (omega (arith, l)))
+pub returns-in_default-2-clause-growth : goal.returns-in_default-2-clause-growth
+returns-in_default-2-clause-growth c =
+    let g = c.args.g.now in
+    let free = c.args.free.now in
+    let w = mark_of c.args.nodes.now in
+    let a = c.in-Some.first.outer in
+    let s = c.next_gate.new.self in
+    let graph = c.nodes-n.ensures.graph in
+    let search = c.in_ok-second.ensures.search.search in
+    let all : length s.found.order.items ≤ s.head = rw c.in_default-2.is at c.in_ok-second.ensures.none in
+    let at : IsAtGate g w (mark_of free) c.start_at_gate.new.self c.in-Some.first = rw c.in-Some.is at c.in_ok-first.ensures.found in
+    let gate : IsGate g w (mark_of free) s.start g.nodes g.nodes a = rw (c.in_ok-second.ensures.start, at.start) at.gate in
+    let end = gate_end g free s.start s.head s.found graph search w s.start g.nodes g.nodes a (first_in g free s.start s.head s.found graph search) gate in
+    few_gates g free s.start s.head s.found graph search w (λ v t. omega (arith, mark_below c.args.nodes.now v t, c.requires.marks)) a a all c.in_ok-second.ensures.passed end end
+
+pub returns-in_default-2-clause-room : goal.returns-in_default-2-clause-room
+returns-in_default-2-clause-room c = let s = c.next_gate.new.self in searched_room c.args.g.now c.args.free.now (s.start ∷ []) s.head s.found c.in_ok-second.ensures.search.search
+
+pub returns-in_default-3-clause-growth : goal.returns-in_default-3-clause-growth
+returns-in_default-3-clause-growth c =
+    let g = c.args.g.now in
+    let free = c.args.free.now in
+    let w = mark_of c.args.nodes.now in
+    let a = c.in-Some.first.outer in
+    let b = c.in-Some-2.second.outer in
+    let s = c.next_gate-2.new.self in
+    let graph = c.nodes-n.ensures.graph in
+    let search = c.in_ok-third.ensures.search.search in
+    let all : length s.found.order.items ≤ s.head = rw c.in_default-3.is at c.in_ok-third.ensures.none in
+    let at : IsAtGate g w (mark_of free) c.start_at_gate.new.self c.in-Some.first = rw c.in-Some.is at c.in_ok-first.ensures.found in
+    let gate : IsGate g w (mark_of free) s.start g.nodes g.nodes a = rw (c.in_ok-third.ensures.start, c.in_ok-second.ensures.start, at.start) at.gate in
+    let second : IsGateOf g w (mark_of free) c.next_gate.new.self.found.order.items a a c.in-Some-2.second = rw c.in-Some-2.is at c.in_ok-second.ensures.found in
+    let end_a = gate_end g free s.start s.head s.found graph search w s.start g.nodes g.nodes a (first_in g free s.start s.head s.found graph search) gate in
+    let end_b = gate_end g free s.start s.head s.found graph search w c.in-Some-2.second.inner a a b (c.in_ok-third.ensures.kept c.in-Some-2.second.inner second.0) second.1 in
+    few_gates g free s.start s.head s.found graph search w (λ v t. omega (arith, mark_below c.args.nodes.now v t, c.requires.marks)) a b all c.in_ok-third.ensures.passed end_a end_b
+
+pub returns-in_default-3-clause-room : goal.returns-in_default-3-clause-room
+returns-in_default-3-clause-room c = let s = c.next_gate-2.new.self in searched_room c.args.g.now c.args.free.now (s.start ∷ []) s.head s.found c.in_ok-third.ensures.search.search
+
+pub meet-requires-clause-tree : goal.meet-requires-clause-tree
+meet-requires-clause-tree c = let s = c.next_gate-2.new.self in is_tree c.args.g.now c.args.free.now s.start s.head s.found c.nodes-n.ensures.graph c.in_ok-third.ensures.search.search
+
+pub meet-requires-clause-first : goal.meet-requires-clause-first
+meet-requires-clause-first c =
+    let s = c.next_gate-2.new.self in
+    let a = c.in-Some.first.outer in
+    let second : IsGateOf c.args.g.now (mark_of c.args.nodes.now) (mark_of c.args.free.now) c.next_gate.new.self.found.order.items a a c.in-Some-2.second = rw c.in-Some-2.is at c.in_ok-second.ensures.found in
+    ranked_in c.args.g.now c.args.free.now s.start s.head s.found c.nodes-n.ensures.graph c.in_ok-third.ensures.search.search c.in-Some-2.second.inner (c.in_ok-third.ensures.kept c.in-Some-2.second.inner second.0)
+
+pub meet-requires-clause-second : goal.meet-requires-clause-second
+meet-requires-clause-second c =
+    let s = c.next_gate-2.new.self in
+    let third : IsGateOf c.args.g.now (mark_of c.args.nodes.now) (mark_of c.args.free.now) s.found.order.items c.in-Some.first.outer c.in-Some-2.second.outer c.in-Some-3.third = rw c.in-Some-3.is at c.in_ok-third.ensures.found in
+    ranked_in c.args.g.now c.args.free.now s.start s.head s.found c.nodes-n.ensures.graph c.in_ok-third.ensures.search.search c.in-Some-3.third.inner third.0
+
+pub returns-clause-growth : goal.returns-clause-growth
+returns-clause-growth c =
+    let g = c.args.g.now in
+    let free = c.args.free.now in
+    let w = mark_of c.args.nodes.now in
+    let a = c.in-Some.first.outer in
+    let b = c.in-Some-2.second.outer in
+    let s = c.next_gate-2.new.self in
+    let graph = c.nodes-n.ensures.graph in
+    let search = c.in_ok-third.ensures.search.search in
+    let at : IsAtGate g w (mark_of free) c.start_at_gate.new.self c.in-Some.first = rw c.in-Some.is at c.in_ok-first.ensures.found in
+    let gate : IsGate g w (mark_of free) s.start g.nodes g.nodes a = rw (c.in_ok-third.ensures.start, c.in_ok-second.ensures.start, at.start) at.gate in
+    let second : IsGateOf g w (mark_of free) c.next_gate.new.self.found.order.items a a c.in-Some-2.second = rw c.in-Some-2.is at c.in_ok-second.ensures.found in
+    let third : IsGateOf g w (mark_of free) s.found.order.items a b c.in-Some-3.third = rw c.in-Some-3.is at c.in_ok-third.ensures.found in
+    let u = ranked_free g free s.start s.head s.found graph search c.meet.result c.meet.ensures.ranked in (
+      u.0,
+      u.1,
+      meeting_held g free s.start s.head s.found graph search w c.in-Some-2.second.inner c.in-Some-3.third.inner c.meet.result a b c.in-Some-3.third.outer g.nodes g.nodes
+          c.meet.ensures.ways c.meet.ensures.ranked gate second.1 third.1,
+    )
+
+pub returns-clause-room : goal.returns-clause-room
+returns-clause-room c = let s = c.next_gate-2.new.self in searched_room c.args.g.now c.args.free.now (s.start ∷ []) s.head s.found c.in_ok-third.ensures.search.search

@@ -1,9 +1,10 @@
 use Rattle.std.proofs.Common.{◌≡◌, refl, true, get_or, inl, inr, arith, sym, ◌∙◌, subst, length-set}
 use Rattle.tomo_base.specs.declared.graph.Hop.{Hop}
 use Rattle.tomo_base.specs.Search.{mark_of}
-use Rattle.tomo_base.proofs.Searching.{hops_below}
+use Rattle.tomo_base.proofs.Rows.{hops_below}
 use Rattle.three_conn.proofs.Holding.{held_first}
-use Rattle.three_conn.proofs.Marking.{linked_hop, hop_marked}
+use Rattle.gate_search.proofs.Hops.{linked_hop}
+use Rattle.three_conn.proofs.Marking.{hop_marked}
 use Rattle.three_conn.proofs.known.begin.Goals as goal
 
 pub index_mut-requires-in-loop-hop : goal.index_mut-requires-in-loop-hop

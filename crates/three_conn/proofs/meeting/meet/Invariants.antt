@@ -1,6 +1,7 @@
 use Rattle.std.proofs.Common.{◌+◌}
 use Rattle.tomo_base.specs.Search.{entry_at}
-use Rattle.three_conn.specs.Trees.{IsRanked, IsWayUp}
+use Rattle.gate_search.specs.Trees.{IsRanked}
+use Rattle.three_conn.specs.WaysUp.{IsWayUp}
 use Rattle.three_conn.proofs.meeting.meet.Given as goal
 
 abbrev pub invariant-loop-u : goal.invariant-loop-u

@@ -1,22 +1,11 @@
-use Rattle.std.proofs.Common.{◌≡◌, ◌∙◌, subst, arith}
 use Rattle.tomo_base.specs.Search.{mark_of}
-use Rattle.three_conn.specs.Held.{IsHeld, IsCheckedTo}
-use Rattle.tomo_base.specs.Parting.{IsThreeConnectedIn}
-use Rattle.three_conn.proofs.Holding.{all_held}
-use Rattle.three_conn.proofs.Marking.{mark_below}
-use Rattle.three_conn.proofs.Whole.{three_connected_in, then_whole}
+use Rattle.three_conn.proofs.Holding.{two_roots}
+use Rattle.three_conn.proofs.Whole.{three_connected_in}
 use Rattle.three_conn.proofs.probing.seek.Goals as goal
 
-pub check-requires-clause-root : goal.check-requires-clause-root
-check-requires-clause-root c = omega (arith, mark_below c.args.nodes.now c.args.root c.requires.root, c.requires.marks)
-
-pub returns-clause-whole : goal.returns-clause-whole
-returns-clause-whole c =
-    let g = c.args.g.now in
+pub returns-in-None-clause-whole : goal.returns-in-None-clause-whole
+returns-in-None-clause-whole c =
     let w = mark_of c.args.nodes.now in
-    let whole = rw c.in-None.is at c.in_ok-parting.ensures.whole in
-    let same : c.grow.new.known.root ≡ c.args.root = c.grow.ensures.root ∙ c.in_ok-known.ensures.root in
-    let held : IsHeld g w c.args.root (mark_of c.grow.new.known.held.items) = subst (λ z. IsHeld g w z (mark_of c.grow.new.known.held.items)) same c.grow.ensures.known.held in
-    then_whole c.check.result (IsCheckedTo g w c.args.root g.nodes) (IsThreeConnectedIn g w) c.check.ensures.all (λ checked.
-    three_connected_in g w c.nodes-count.ensures.graph c.requires.four
-    (all_held g w (mark_of c.grow.new.known.held.items) c.args.root c.nodes-count.ensures.graph held whole checked c.requires.four))
+    three_connected_in c.args.g.now w c.nodes-count.ensures.graph c.requires.four
+    (two_roots c.args.g.now w c.args.first c.args.second c.requires.differ
+    (rw c.in_default-2.is at c.in_ok-parting-2.ensures.whole) (rw c.in-None.is at c.in_ok-parting-3.ensures.whole) (rw c.in_default.is at c.in_ok-parting.ensures.none))

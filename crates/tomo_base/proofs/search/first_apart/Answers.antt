@@ -2,7 +2,7 @@ use Rattle.std.proofs.Common.{◌≡◌, ◌<◌, ◌∙◌, length, true, repli
 use Rattle.std.proofs.lemmas.Bool.{cases_eq}
 use Rattle.std.proofs.lemmas.List.{get_or_default, get_or-replicate}
 use Rattle.tomo_base.specs.Search.{mark_of, entry_at}
-use Rattle.tomo_base.proofs.Searching.{ranked_reached, unranked_apart, connected_from}
+use Rattle.tomo_base.proofs.Reached.{ranked_reached, unranked_apart, connected_from}
 use Rattle.tomo_base.proofs.search.first_apart.Goals as goal
 
 pub returns-then-index-n-clause-apart : goal.returns-then-index-n-clause-apart

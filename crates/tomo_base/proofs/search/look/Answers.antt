@@ -3,7 +3,8 @@ use Rattle.std.proofs.lemmas.Bool.{both_ways}
 use Rattle.std.proofs.lemmas.List.{get_or_default}
 use Rattle.tomo_base.specs.declared.graph.Hop.{Hop}
 use Rattle.tomo_base.specs.Search.{entry_at}
-use Rattle.tomo_base.proofs.Searching.{hops_below, looking_past, looking_more, looking_done}
+use Rattle.tomo_base.proofs.Rows.{hops_below}
+use Rattle.tomo_base.proofs.Looking.{looking_past, looking_more, looking_done}
 use Rattle.tomo_base.proofs.search.look.Goals as goal
 use Rattle.tomo_base.proofs.search.look.Goals.{then-free-hop+then-index-n+in_ok-reach, else-free-hop, else-free-hop-via-then-free-hop+else-index-n, else-free-hop-via-else-free-hop}
 
@@ -24,17 +25,17 @@ loop-hop-preserved c =
           let rank_is : entry_at rank node ≡ w.index.result.now = get_or_default rank node 0 _ room ∙ sym w.index.ensures in
           let bare : n ≤ entry_at rank node = omega (arith, rank_is, w.if-index-n.true, c.nodes-n.ensures.nodes) in
           rw (w.found-is, w.in_ok-reach.ensures.order, w.in_ok-reach.ensures.parents, w.in_ok-reach.ensures.ranks)
-          (looking_more _ _ _ _ _ _ _ _ _ node _ _ _ e c.nodes-n.ensures.graph c.hops-hop-items.ensures c.loop-hop-test.true refl w.if-free-hop.true bare c.loop-hop.invariant)
+          (looking_more _ _ _ _ _ _ _ node _ e c.nodes-n.ensures.graph c.hops-hop-items.ensures c.loop-hop-test.true refl w.if-free-hop.true bare c.loop-hop.invariant)
       | else-free-hop w ↦ rw w.found-is (elim w.else-free-hop.branch [
         | else-free-hop-via-then-free-hop+else-index-n x ↦
             let rank_is : entry_at rank node ≡ x.index.result.now = get_or_default rank node 0 _ room ∙ sym x.index.ensures in
             let ranked : entry_at rank node < n = omega (arith, rank_is, x.if-index-n.false, ranks.most node below, c.nodes-n.ensures.nodes) in
-            looking_past _ _ _ _ _ _ _ _ _ _ _ _ e c.loop-hop-test.true (λ is_free. ranked) c.loop-hop.invariant
-        | else-free-hop-via-else-free-hop x ↦ looking_past _ _ _ _ _ _ _ _ _ _ _ _ e c.loop-hop-test.true (λ is_free. absurd (both_ways _ x.if-free-hop.false is_free)) c.loop-hop.invariant
+            looking_past _ _ _ _ _ _ _ _ e c.loop-hop-test.true (λ is_free. ranked) c.loop-hop.invariant
+        | else-free-hop-via-else-free-hop x ↦ looking_past _ _ _ _ _ _ _ _ e c.loop-hop-test.true (λ is_free. absurd (both_ways _ x.if-free-hop.false is_free)) c.loop-hop.invariant
       ])
     ]
 
 pub returns-clause-searched : goal.returns-clause-searched
 returns-clause-searched c =
     let all : c.loop-hop.hop-index ≡ length c.hops-hop-items.result.now = omega (arith, c.loop-hop-test.false, c.loop-hop.auto.hop-index-end) in
-    λ seeds before. looking_done c.args.g.now c.args.free.now c.args.head _ _ _ c.hops-hop-items.result.now c.index-node.result.now _ _ _ seeds c.hops-hop-items.ensures (rw all at c.loop-hop.invariant) before
+    λ seeds before. looking_done c.args.g.now c.args.free.now c.args.head _ c.hops-hop-items.result.now c.index-node.result.now _ seeds c.hops-hop-items.ensures (rw all at c.loop-hop.invariant) before

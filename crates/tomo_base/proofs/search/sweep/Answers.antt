@@ -1,12 +1,14 @@
 use Rattle.std.proofs.Common.{◌≡◌, ◌≤◌, length, arith}
-use Rattle.tomo_base.proofs.Searching.{planted, few_ranked}
+use Rattle.tomo_base.proofs.Planting.{planted}
+use Rattle.tomo_base.proofs.Ranks.{few_ranked}
 use Rattle.tomo_base.proofs.search.sweep.Goals as goal
+use Rattle.tomo_base.proofs.Looking.{state_of}
 
 pub loop-head-init : goal.loop-head-init
 loop-head-init c =
     let begun = c.in_ok-found.ensures in
     let same = c.nodes.ensures.nodes in
-    (planted c.args.g.now c.args.free.now c.args.seeds.now _ _ _ begun.order (rw same at (begun.ranks c.args.free.now c.requires.free)) (rw same at begun.parents) begun.roots, omega arith)
+    (planted c.args.g.now c.args.free.now c.args.seeds.now (state_of c.in_ok-found.found) begun.order (rw same at (begun.ranks c.args.free.now c.requires.free)) (rw same at begun.parents) begun.roots, omega arith)
 
 pub loop-head-smaller : goal.loop-head-smaller
 loop-head-smaller c =

@@ -12,6 +12,11 @@ returns-in-Monitors-clause-taken c =
     let closed : c.in_ok-rows.rows.closed ≡ rows_of c.args.content.items = rw c.deref.ensures.value at (ap (λ (r : RowList). r.closed) c.in_ok-rows.ensures) in
     rw (c.in-Monitors.is, ← closed) c.take_monitors.ensures.taken
 
+pub returns-in-AChoice-clause-taken : goal.returns-in-AChoice-clause-taken
+returns-in-AChoice-clause-taken c =
+    let closed : c.in_ok-rows.rows.closed ≡ rows_of c.args.content.items = rw c.deref.ensures.value at (ap (λ (r : RowList). r.closed) c.in_ok-rows.ensures) in
+    rw (c.in-AChoice.is, ← closed) c.take_choice.ensures.taken
+
 pub returns-in-APlan-clause-taken : goal.returns-in-APlan-clause-taken
 returns-in-APlan-clause-taken c =
     let closed : c.in_ok-rows.rows.closed ≡ rows_of c.args.content.items = rw c.deref.ensures.value at (ap (λ (r : RowList). r.closed) c.in_ok-rows.ensures) in

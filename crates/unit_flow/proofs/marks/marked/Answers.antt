@@ -1,7 +1,7 @@
 use Rattle.std.proofs.Common.{◌≡◌, ◌&&◌, nat_lt, sym, subst}
 use Rattle.tomo_base.specs.Search.{mark_of}
 use Rattle.tomo_base.specs.Sets.{has}
-use Rattle.tomo_base.proofs.Ascending.{below-none}
+use Rattle.tomo_base.proofs.Ranges.{below-none}
 use Rattle.unit_flow.proofs.marks.marked.Goals as goal
 
 pub loop-v-init : goal.loop-v-init

@@ -2,8 +2,8 @@ use Rattle.std.proofs.Common.{◌≡◌, ◌++◌, false, replicate, length, tak
 use Rattle.std.proofs.lemmas.List.{length-replicate}
 use Rattle.tomo_base.specs.Search.{mark_of}
 use Rattle.tomo_base.specs.Sets.{has}
-use Rattle.tomo_base.proofs.Entering.{lent_back}
-use Rattle.unit_flow.proofs.Reaches.{bare_mark}
+use Rattle.tomo_base.proofs.Lists.{lent_back}
+use Rattle.tomo_base.proofs.Marks.{bare_mark}
 use Rattle.unit_flow.proofs.Marking.{marks_only}
 use Rattle.unit_flow.proofs.marks.marks.Goals as goal
 

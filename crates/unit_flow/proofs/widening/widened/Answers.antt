@@ -1,6 +1,6 @@
 use Rattle.std.proofs.Common.{◌≡◌, ◌++◌, replicate, false, ◌<◌, ℕ, [], ◌∷◌, length, map, IfSome, IfNone, arith, refl, sym, ap, ◌∙◌, subst}
 use Rattle.unit_flow.specs.declared.arrays.Reached.{Reached}
-use Rattle.tomo_base.proofs.Entering.{lent_back}
+use Rattle.tomo_base.proofs.Lists.{lent_back}
 use Rattle.unit_flow.specs.Flows.{last_of}
 use Rattle.unit_flow.specs.Steps.{entry_of, node_at, via_at}
 use Rattle.unit_flow.specs.Search.{asked, IsNear, IsDone, IsHit, Reaching}

@@ -2,9 +2,10 @@ use Rattle.std.proofs.Common.{◌≡◌, ◌<◌, ◌++◌, [], ◌∷◌, ℕ, 
 use Rattle.std.proofs.lemmas.Bool.{both_ways}
 use Rattle.tomo_base.specs.Network.{Network}
 use Rattle.tomo_base.specs.Search.{mark_of}
-use Rattle.ear_order.specs.Ears.{Ears, in_ears}
+use Rattle.ear_order.specs.Ears.{Ears, in_ears, IsOrder}
 use Rattle.ear_order.proofs.InEars.{map_push}
 use Rattle.ear_order.proofs.Ordering.{order_nodes, left_in, push_in}
+use Rattle.ear_order.proofs.orders.EarOrder.next.Goals.{In_ok-push}
 use Rattle.ear_order.proofs.orders.EarOrder.next.Goals as goal
 
 pub in_some_ear-requires : goal.in_some_ear-requires
@@ -25,8 +26,9 @@ next_ear-requires c =
 pub invariant_of-self : goal.invariant_of-self
 invariant_of-self c = rw c.in_err-push.ensures.items c.self.invariant
 
-pub invariant_of-self-2 : goal.invariant_of-self-2
-invariant_of-self-2 c =
+-- the order with the ear
+grown : (c : In_ok-push) → IsOrder (record { graph = record { nodes = c.self.inside.node_count; links = c.self.inside.links.items }; r = c.self.inside.r; t = c.self.inside.t; u = c.self.inside.u; list = map (λ e. e.items) c.push.new.self.items })
+grown c =
     let same = ap (λ (z : Ears). z.graph) c.self.view_is ∙ c.requires in
     let size : length c.in_ok-old.old.items ≡ c.args.g.now.nodes = c.in_ok-old.ensures.size ∙ c.nodes.ensures.nodes in
     let unmarked = c.in-Some._unmarked in
@@ -36,6 +38,9 @@ invariant_of-self-2 c =
     (subst (λ xs. unmarked < length xs) (c.deref-2.ensures.value ∙ sym c.deref-3.ensures.value) c.in-Some.ensures.below)
     (subst (λ xs. mark_of xs unmarked ≡ false) (c.deref-2.ensures.value ∙ sym c.deref-3.ensures.value) c.in-Some.ensures.some)
     c.in_ok-ear.ensures.ear c.in_ok-ear.ensures.next)
+
+pub invariant_of-self-2 : goal.invariant_of-self-2
+invariant_of-self-2 c = grown (goal.at.invariant_of-self-2 c).In_ok-push
 
 pub returns-clause-more : goal.returns-clause-more
 returns-clause-more c = λ more.
@@ -55,13 +60,4 @@ returns-clause-whole c =
     )
 
 pub returns-clause-order : goal.returns-clause-order
-returns-clause-order c =
-    let same = ap (λ (z : Ears). z.graph) c.self.view_is ∙ c.requires in
-    let size : length c.in_ok-old.old.items ≡ c.args.g.now.nodes = c.in_ok-old.ensures.size ∙ c.nodes.ensures.nodes in
-    let unmarked = c.in-Some._unmarked in
-    let list = map_push c.self.inside.ears.items c.in_ok-ear.ear in
-    rw (c.in_ok-push.ensures.items, list) (push_in _ c.self.invariant c.args.g.now same c.deref-3.result.now c.in_ok-ear.ear.items (ap length c.deref-3.ensures.value ∙ size)
-    (λ v. ap (λ xs. mark_of xs v) c.deref-3.ensures.value ∙ (c.in_ok-old.ensures.marks v ∙ ap (λ es. in_ears (map (λ e. e.items) es) v) c.deref.ensures.value)) unmarked
-    (subst (λ xs. unmarked < length xs) (c.deref-2.ensures.value ∙ sym c.deref-3.ensures.value) c.in-Some.ensures.below)
-    (subst (λ xs. mark_of xs unmarked ≡ false) (c.deref-2.ensures.value ∙ sym c.deref-3.ensures.value) c.in-Some.ensures.some)
-    c.in_ok-ear.ensures.ear c.in_ok-ear.ensures.next)
+returns-clause-order c = grown (goal.at.returns-clause-order c).In_ok-push

@@ -2,7 +2,8 @@ use Rattle.std.proofs.Common.{◌++◌, ◌∷◌, [], ◌≡◌, ◌≤◌, sym
 use Rattle.std.proofs.lemmas.List.{length_push}
 use Rattle.tomo_base.specs.declared.graph.Link.{Link}
 use Rattle.tomo_base.specs.Table.{AreHops, AreRows, in_order}
-use Rattle.tomo_base.proofs.Entering.{rows_push, first_at, repeats, kept_more, in_order_high, loop_ends, two_ends, row_read, no_link_yet, length-kept, lent_back}
+use Rattle.tomo_base.proofs.Entering.{rows_push, first_at, repeats, kept_more, in_order_high, loop_ends, two_ends, row_read, no_link_yet, length-kept}
+use Rattle.tomo_base.proofs.Lists.{lent_back}
 use Rattle.tomo_base.proofs.Rows.{AreLinks-push}
 use Rattle.tomo_base.specs.Network.{any_joins}
 use Rattle.tomo_base.proofs.graph.Graph.new.Goals as goal

@@ -1,6 +1,6 @@
 use Rattle.std.proofs.Common.{sym, ◌∙◌, arith}
 use Rattle.tomo_base.specs.Sets.{has, outside}
-use Rattle.tomo_base.proofs.Ascending.{below-none, below-more, below-less, below-all}
+use Rattle.tomo_base.proofs.Ranges.{below-none, below-more, below-less, below-all}
 use Rattle.tomo_base.proofs.Touching.{outside_below}
 use Rattle.tomo_base.proofs.node_set.NodeSet.outside.Goals as goal
 use Rattle.tomo_base.proofs.node_set.NodeSet.outside.Goals.{then-borders+in_ok-insert, else-borders}

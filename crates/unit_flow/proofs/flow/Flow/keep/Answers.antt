@@ -1,5 +1,5 @@
 use Rattle.std.proofs.Common.{[], ◌∷◌, length, sym, ap, subst, arith}
-use Rattle.unit_flow.specs.Flows.{task_of, IsFlow}
+use Rattle.unit_flow.specs.Flows.{IsFlow, routing_task}
 use Rattle.unit_flow.proofs.Kept.{path_fits, kept_path}
 use Rattle.unit_flow.proofs.flow.Flow.keep.Goals as goal
 
@@ -11,4 +11,4 @@ copy_from_slice-requires c =
 pub invariant_of-self : goal.invariant_of-self
 invariant_of-self c =
     kept_path c.self.invariant c.self.view_is c.requires.empty c.copy_from_slice.new.self
-    (subst (λ z. IsFlow (task_of c.args.self.now) (z ∷ [])) (sym c.copy_from_slice.ensures.items) c.requires.path)
+    (subst (λ z. IsFlow (routing_task c.args.self.now) (z ∷ [])) (sym c.copy_from_slice.ensures.items) c.requires.path)

@@ -1,6 +1,6 @@
 use Rattle.std.proofs.Common.{◌≡◌, ℕ, List, map, take, subst}
 use Rattle.std.proofs.lemmas.Result.{IfOk-weaker}
-use Rattle.unit_flow.specs.Flows.{task_of, IsFlow}
+use Rattle.unit_flow.specs.Flows.{IsFlow, routing_task}
 use Rattle.unit_flow.specs.Order.{AreInOrder}
 use Rattle.unit_flow.proofs.Kept.{kept_task}
 use Rattle.unit_flow.proofs.Orders.{flow_permuted}
@@ -24,7 +24,7 @@ by_second-requires-clause-room c = (listed c.self.invariant c.deref.ensures.valu
 
 pub returns-clause-flow : goal.returns-clause-flow
 returns-clause-flow c =
-    let t = task_of c.args.self.now in
+    let t = routing_task c.args.self.now in
     let lent : c.deref.result.now ≡ c.self.inside.paths.items = c.deref.ensures.value in
     let read : List (List ℕ) = map (λ p. p.items) (take c.self.inside.count c.deref.result.now) in
     let flow : IsFlow t read = rw lent (subst (λ z. IsFlow z (map (λ p. p.items) (take c.self.inside.count c.self.inside.paths.items))) (kept_task c.self.invariant c.self.view_is) c.self.invariant.flow) in

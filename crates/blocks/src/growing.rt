@@ -1,0 +1,105 @@
+// Nodes of a set that no single node parts from a root.
+ghost use Rattle.std.specs.Prelude.{ℕ, ◌≡◌, ◌<◌, Bool, true, false, length, set, All, IsTrue, IfOk, OnOk};
+ghost use Rattle.tomo_base.specs.Sets.{count};
+ghost use Rattle.tomo_base.specs.Search.{mark_of};
+ghost use Rattle.tomo_base.specs.Parting.{AreJoinedIn};
+ghost use Rattle.gate_search.specs.Trees.{IsRanked};
+ghost use Rattle.gate_search.specs.Stops.{IsRoom, IsGateSearch};
+ghost use Rattle.blocks.specs.Growing.{IsGrown, IsWay, IsGrowth};
+
+use gate_search::{GateSearch, add_free};
+use std::alloc::{AllocError, Global};
+use tomo_base::{Graph, NoMemory};
+
+// What a search from a free node tells.
+#[derive(Drop)]
+pub enum Growth {
+    // The nodes from this one on the way up to the start may be held.
+    Way(u32),
+    // This node cuts off what the search has reached.
+    Cut(u32),
+}
+
+// Marks on the nodes of the set that are not held: at first the root and its neighbours are.
+pub fn begin(alloc: Global, g: &Graph, nodes: &[bool], root: u32) -> Result<Vec<bool>, NoMemory>
+    requires marks { length nodes.now ≡ g.now.nodes }
+    requires root { mark_of nodes.now root ≡ true }
+    ensures size { IfOk result (λ free. length free.items ≡ g.now.nodes) }
+    ensures grown { IfOk result (λ free. IsGrown g.now root (mark_of nodes.now) (mark_of free.items)) }
+{
+    let _count = g.nodes();
+    let mut free = nodes.to_vec(alloc)?;
+    free[root as usize] = false;
+    for hop in g.hops(root) {
+        free[hop.node as usize] = false;
+    }
+    Ok(free)
+}
+
+// A step from a free node: a search from it, or from the first node with a gate to which it is connected, up to gates to two different nodes.
+pub fn step(
+    g: &Graph,
+    nodes: &[bool],
+    free: &[bool],
+    x: u32,
+    search: &mut GateSearch,
+) -> Result<Growth, NoMemory>
+    requires marks { length nodes.now ≡ g.now.nodes }
+    requires free { length free.now ≡ g.now.nodes }
+    requires node { (x < g.now.nodes) × (mark_of free.now x ≡ true) }
+    requires joined { (held : ℕ) × (mark_of free.now held ≡ false) × AreJoinedIn g.now (mark_of nodes.now) x held }
+    requires room { IsRoom g.now.nodes search.old.found }
+    ensures { IfOk result (IsGrowth g.now (mark_of nodes.now) free.now search.new) }
+{
+    let _count = g.nodes();
+    let Some(first) = search.start_at_gate(g, nodes, free, x)? else {
+        unreachable!()
+    };
+    let d = first.outer;
+    match search.next_gate(g, nodes, free, d, d)? {
+        Some(second) => Ok(Growth::Way(second.inner)),
+        None => Ok(Growth::Cut(d)),
+    }
+}
+
+// Holds a node: it is free no more, and its free neighbours have a gate.
+fn hold(g: &Graph, v: u32, free: &mut Vec<bool>, starts: &mut Vec<u32>) -> Result<(), AllocError>
+    requires free { length free.old.items ≡ g.now.nodes }
+    requires node { v < g.now.nodes }
+    requires starts { All (λ u. u < g.now.nodes) starts.old.items }
+    ensures free { OnOk result (free.new.items ≡ set free.old.items v false) }
+    ensures starts { OnOk result (All (λ u. u < g.now.nodes) starts.new.items) }
+{
+    let _count = g.nodes();
+    add_free(g, free, v, starts)?;
+    free[v as usize] = false;
+    Ok(())
+}
+
+// Holds the nodes on the way from y up to the start of the search.
+pub fn hold_way(
+    g: &Graph,
+    search: &GateSearch,
+    y: u32,
+    free: &mut Vec<bool>,
+    starts: &mut Vec<u32>,
+) -> Result<(), AllocError>
+    requires free { length free.old.items ≡ g.now.nodes }
+    requires starts { All (λ u. u < g.now.nodes) starts.old.items }
+    requires search { IsGateSearch g.now free.old.items search.now }
+    requires ranked { IsRanked search.now.found y }
+    ensures size { OnOk result (length free.new.items ≡ g.now.nodes) }
+    ensures starts { OnOk result (All (λ u. u < g.now.nodes) starts.new.items) }
+    ensures fewer { OnOk result (count g.now.nodes (mark_of free.new.items) < count g.now.nodes (mark_of free.old.items)) }
+    ensures passed { OnOk result ((v : ℕ) → mark_of free.old.items v ≡ false → mark_of free.new.items v ≡ false) }
+    ensures grown { OnOk result ((root : ℕ) (w : ℕ → Bool) → IsWay g.now w free.old.items search.now y → IsGrown g.now root w (mark_of free.old.items) → IsGrown g.now root w (mark_of free.new.items)) }
+{
+    let _count = g.nodes();
+    let mut v = y;
+    while v != search.start {
+        hold(g, v, free, starts)?;
+        v = search.found.parent[v as usize];
+    }
+    hold(g, v, free, starts)?;
+    Ok(())
+}

@@ -1,0 +1,45 @@
+// Marks on nodes.
+ghost use Rattle.std.specs.Prelude.{ℕ, ◌≡◌, ◌≤◌, ◌<◌, length, All, IfOk};
+ghost use Rattle.tomo_base.specs.Sets.{has, members, minus};
+ghost use Rattle.tomo_base.specs.Search.{mark_of};
+
+use std::alloc::Global;
+use tomo_base::NoMemory;
+
+// One mark for each of `n` nodes: that it is in the list.
+pub fn marks_of(alloc: Global, n: u32, nodes: &[u32]) -> Result<Vec<bool>, NoMemory>
+    requires { All (λ v. v < n) nodes.now }
+    ensures length { IfOk result (λ marks. length marks.items ≡ n) }
+    ensures marks { IfOk result (λ marks. (v : ℕ) → mark_of marks.items v ≡ has nodes.now v) }
+{
+    let mut marks = vec![in alloc; false; n as usize]?;
+    for &v in nodes {
+        marks[v as usize] = true;
+    }
+    Ok(marks)
+}
+
+// The nodes with a mark, ascending.
+pub fn marked(alloc: Global, marks: &[bool]) -> Result<Vec<u32>, NoMemory>
+    requires { length marks.now ≤ 10000 }
+    ensures { IfOk result (λ nodes. nodes.items ≡ members (length marks.now) (mark_of marks.now)) }
+{
+    let mut nodes = Vec::new(alloc);
+    for v in 0..marks.len() {
+        if marks[v] {
+            nodes.push(v as u32)?;
+        }
+    }
+    Ok(nodes)
+}
+
+// Takes their marks from the nodes of the list.
+pub fn unmark(marks: &mut Vec<bool>, nodes: &[u32])
+    requires { All (λ v. v < length marks.old.items) nodes.now }
+    ensures length { length marks.new.items ≡ length marks.old.items }
+    ensures marks { (v : ℕ) → mark_of marks.new.items v ≡ minus (mark_of marks.old.items) (has nodes.now) v }
+{
+    for &v in nodes {
+        marks[v as usize] = false;
+    }
+}

@@ -1,0 +1,4 @@
+pub mod Trees
+pub mod Hops
+pub mod Stopping
+pub mod Marks

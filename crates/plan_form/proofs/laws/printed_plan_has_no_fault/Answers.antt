@@ -1,5 +1,0 @@
-use Rattle.plan_form.proofs.Printed.{no_fault}
-use Rattle.plan_form.proofs.laws.printed_plan_has_no_fault.Goals as goal
-
-pub returns : goal.returns
-returns c = no_fault 1

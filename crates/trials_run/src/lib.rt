@@ -8,6 +8,8 @@ mod choosing;
 #[cfg(test)]
 mod faults;
 #[cfg(test)]
+mod migrating;
+#[cfg(test)]
 mod planning;
 #[cfg(test)]
 mod refusals;

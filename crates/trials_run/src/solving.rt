@@ -49,9 +49,9 @@ const STAR_ROUNDS: [(&str, &[u8], Status, &[u8]); 13] = [
     ),
     (
         "the largest delay, and more",
-        b"2000000000000,2000000000000,2000000000000\n1000000000000000,1000000000000000,1000000000000000\n",
+        b"2000000000000000,2000000000000000,2000000000000000\n2000000000000002,2000000000000002,2000000000000002\n",
         Status::Negative,
-        b"link,0,c,x\nlink,1,c,y\nlink,2,c,z\nround,0,ok,1000000000000,1000000000000,1000000000000\nround,1,large,0\nend,2,1\n",
+        b"link,0,c,x\nlink,1,c,y\nlink,2,c,z\nround,0,ok,1000000000000000,1000000000000000,1000000000000000\nround,1,large,0\nend,2,1\n",
     ),
     (
         "no round",
@@ -85,7 +85,7 @@ const STAR_ROUNDS: [(&str, &[u8], Status, &[u8]); 13] = [
     ),
     (
         "a sum too large",
-        b"5,1000000000000001,7\n",
+        b"5,2000000000000000001,7\n",
         Status::BadInput,
         b"refused,r,number,1 2\n",
     ),
@@ -118,10 +118,10 @@ const OTHER_ROUNDS: [([&[u8]; 3], Status, &[u8]); 5] = [
         [
             TWO_LINKS,
             TWO_LINKS_PLAN,
-            b"5, 7 \n0,1000000000000\n1000000000001,0\n",
+            b"5, 7 \n0,1000000000000000\n1000000000000001,0\n",
         ],
         Status::Negative,
-        b"link,0,a,b\nlink,1,b,c\nround,0,ok,5,7\nround,1,ok,0,1000000000000\nround,2,large,0\nend,3,1\n",
+        b"link,0,a,b\nlink,1,b,c\nround,0,ok,5,7\nround,1,ok,0,1000000000000000\nround,2,large,0\nend,3,1\n",
     ),
     (
         [COMPLETE, COMPLETE_PLAN, b"1,2,8,9,4,11\n"],

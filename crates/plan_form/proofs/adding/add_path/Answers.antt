@@ -1,4 +1,4 @@
-use Rattle.std.proofs.Common.{◌≡◌, ◌∷◌, [], length, arith, ap, Some, refl, length-append}
+use Rattle.std.proofs.Common.{◌∷◌, [], length, arith, ap, Some, refl, length-append}
 use Rattle.topology.specs.Names.{row_at}
 use Rattle.plan_form.specs.declared.kinds.Kind.TheVariants as kinds
 use Rattle.plan_form.specs.Kinds.{field}

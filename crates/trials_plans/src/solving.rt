@@ -45,8 +45,8 @@ fn links_without_a_delay_are_named(rt: HostRuntime) -> Result<(), Fail> {
     for (sums, link, why) in [
         ([5, 6, 8], 0, Why::Odd),
         ([2, 2, 10], 0, Why::Negative),
-        ([2_000_000_000_002, 0, 0], 0, Why::Large),
-        ([2_000_000_000_000, 0, 0], 2, Why::Negative),
+        ([2_000_000_000_000_002, 0, 0], 0, Why::Large),
+        ([2_000_000_000_000_000, 0, 0], 2, Why::Negative),
     ] {
         assert!(rt; answers(alloc, STAR, &sums, Answer::Link(link, why))?);
     }

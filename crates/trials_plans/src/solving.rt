@@ -2,7 +2,7 @@
 ghost use Rattle.std.specs.Prelude.{◌<◌, ◌^◌, length};
 
 use crate::small::topology_of;
-use link_solver::{Answer, Delays, Why, solve_into};
+use link_solver::{Answer, Delays, Why, are_tied, solve_into};
 use planner::make_plan;
 use samples::{STAR, TRIANGLES};
 use std::alloc::Global;
@@ -49,6 +49,23 @@ fn links_without_a_delay_are_named(rt: HostRuntime) -> Result<(), Fail> {
         ([2_000_000_000_000_000, 0, 0], 2, Why::Negative),
     ] {
         assert!(rt; answers(alloc, STAR, &sums, Answer::Link(link, why))?);
+    }
+    Ok(())
+}
+
+// Whether the plan that is made for the topology with these rows is known to be tied.
+fn is_known_tied(alloc: Global, text: &[u8]) -> Result<bool, Fail>
+    requires { length text.now < 2 ^ 31 }
+{
+    let topology = topology_of(alloc, text)?;
+    let plan = make_plan(alloc, &topology)?;
+    Ok(are_tied(alloc, topology.graph(), &plan)?)
+}
+
+#[test]
+fn plans_that_are_made_are_known_to_be_tied(rt: HostRuntime) -> Result<(), Fail> {
+    for text in [STAR, TRIANGLES] {
+        assert!(rt; is_known_tied(rt.alloc(), text)?);
     }
     Ok(())
 }

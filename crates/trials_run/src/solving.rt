@@ -113,7 +113,7 @@ fn rounds_over_a_star_are_solved(rt: HostRuntime) -> Result<(), Fail> {
 }
 
 // A topology, a plan and rounds, and what `solve` says.
-const OTHER_ROUNDS: [([&[u8]; 3], Status, &[u8]); 5] = [
+const OTHER_ROUNDS: [([&[u8]; 3], Status, &[u8]); 6] = [
     (
         [
             TWO_LINKS,
@@ -133,11 +133,20 @@ const OTHER_ROUNDS: [([&[u8]; 3], Status, &[u8]); 5] = [
         Status::Done,
         b"link,0,a,b\nlink,1,a,c\nlink,2,b,c\nlink,3,c,d\nlink,4,d,e\nlink,5,d,f\nlink,6,e,f\nround,0,ok,1,1,1,1,1,1,1\nend,1,0\n",
     ),
-    // The eight paths of a plan that is not tied can disagree.
+    // The eight paths of a plan that is not tied can disagree, in one round or in several.
     (
         [TRIANGLES, TRIANGLES_PLAN, b"1,2,3,3,3,5,2,1\n"],
         Status::Negative,
         b"link,0,a,b\nlink,1,a,c\nlink,2,b,c\nlink,3,c,d\nlink,4,d,e\nlink,5,d,f\nlink,6,e,f\nround,0,path,2\nend,1,1\n",
+    ),
+    (
+        [
+            TRIANGLES,
+            TRIANGLES_PLAN,
+            b"1,2,3,3,3,3,2,1\n1,2,3,3,3,5,2,1\n1,2,3,3,3,3,2,1\n1,2,3,3,3,3,2,1\n",
+        ],
+        Status::Negative,
+        b"link,0,a,b\nlink,1,a,c\nlink,2,b,c\nlink,3,c,d\nlink,4,d,e\nlink,5,d,f\nlink,6,e,f\nround,0,ok,1,1,1,1,1,1,1\nround,1,path,2\nround,2,ok,1,1,1,1,1,1,1\nround,3,ok,1,1,1,1,1,1,1\nend,4,1\n",
     ),
     (
         [b"a,b\nb,d\n", TWO_LINKS_PLAN, b"5,7\n"],

@@ -2,6 +2,7 @@
 #![tactic(auto)]
 
 mod candidates;
+mod easy;
 mod marks;
 mod near;
 mod orders;

@@ -34,8 +34,8 @@ abbrev pub AreMarks : Ears → List Bool → Type 0
 AreMarks o marks = (length marks ≡ o.graph.nodes) × ((v : ℕ) → mark_of marks v ≡ in_ears o.list v)
 
 -- the order with one ear more
-abbrev pub with_one : Ears → List ℕ → Ears
-with_one o e = record o { list = o.list ++ e ∷ [] }
+abbrev pub with_one_ear : Ears → List ℕ → Ears
+with_one_ear o e = record o { list = o.list ++ e ∷ [] }
 
 -- the order with other ears, no fewer than before
 abbrev pub IsLonger : Ears → Ears → Type 0

@@ -3,7 +3,7 @@ ghost use Rattle.std.specs.Prelude.{◌≡◌, ◌<◌, ℕ, length, IfOk, OnOk,
 ghost use Rattle.tomo_base.specs.Cuts.{IsThreeConnected};
 ghost use Rattle.tomo_base.specs.Search.{mark_of};
 ghost use Rattle.ear_order.specs.Ears.{AreEnds, IsEar, with_ear, IsOrder, IsWhole, IsBegun, AddsEar, IsWholeOrder};
-ghost use Rattle.ear_order.specs.Easy.{AreMarks, with_one, IsLonger};
+ghost use Rattle.ear_order.specs.Easy.{AreMarks, with_one_ear, IsLonger};
 ghost use Rattle.ear_order.specs.Turns.{ContinuesWith};
 
 use crate::candidates::facing;
@@ -106,7 +106,7 @@ impl EarOrder {
         requires marks { AreMarks self.old old.old.items }
         requires ear { IsEar self.old.graph (mark_of old.old.items) ear.items }
         requires next { ContinuesWith self.old.graph self.old.u (mark_of old.old.items) ear.items }
-        ensures added { OnOk result (self.new ≡ with_one self.old ear.items) }
+        ensures added { OnOk result (self.new ≡ with_one_ear self.old ear.items) }
         ensures marks { OnOk result (AreMarks self.new old.new.items) }
         ensures more { OnOk result ((v : ℕ) → mark_of old.new.items v ≡ with_ear (mark_of old.old.items) ear.items v) }
         ensures order { OnOk result (IsOrder self.new) }

@@ -4,7 +4,7 @@ use Rattle.tomo_base.specs.Network.{Network, IsGraph}
 use Rattle.tomo_base.specs.Search.{mark_of, entry_at}
 use Rattle.ear_order.specs.Ears.{Ears, with_ear}
 use Rattle.ear_order.specs.Turns.{IsLeft}
-use Rattle.ear_order.specs.Easy.{IsEasy, with_one}
+use Rattle.ear_order.specs.Easy.{IsEasy, with_one_ear}
 use Rattle.ear_order.proofs.Founding.{founded_same}
 use Rattle.ear_order.proofs.Ordering.{left_in, order_short}
 use Rattle.ear_order.proofs.Spots.{ear_all}
@@ -54,10 +54,10 @@ loop-asked-preserved c =
     let old = c.loop-asked.ears in
     let new = c.put.new.self in
     let first = c.args.ears.now in
-    let added : new ≡ with_one old e = c.in_ok-put.ensures.added in
+    let added : new ≡ with_one_ear old e = c.in_ok-put.ensures.added in
     let longer : length new.list ≡ length old.list + 1 = ap (λ (z : Ears). length z.list) added ∙ length_push old.list e in
     let other : List (List ℕ) → Ears = λ es. record first { list = es } in
-    let kept : new ≡ other new.list = added ∙ (ap (λ z. with_one z e) c.loop-asked.invariant.0.0 ∙ ap other (sym (ap (λ (z : Ears). z.list) added))) in
+    let kept : new ≡ other new.list = added ∙ (ap (λ z. with_one_ear z e) c.loop-asked.invariant.0.0 ∙ ap other (sym (ap (λ (z : Ears). z.list) added))) in
     let more = c.in_ok-put.ensures.more in (
       (kept, omega (arith, c.loop-asked.invariant.0.1, longer)),
       c.in_ok-put.ensures.order,

@@ -1,22 +1,21 @@
--- Nodes that are left and have neighbours of lower rank: what is left is connected, and stays so without two nodes that the others can spare.
-use Rattle.std.proofs.Common.{◌≡◌, ◌≢◌, ◌⊎◌, ℕ, zero, suc, ◌-◌, ◌<◌, ◌≤◌, Bool, true, false, List, [], ◌∷◌, length, get_or, refl, sym, subst, ap, ◌∙◌, inl, inr, arith}
-use Rattle.std.proofs.lemmas.Bool.{cases_eq, both_ways, or_cases, or_left, or_right, not-true, not_from_false, false_from_ne_true}
-use Rattle.std.proofs.lemmas.List.{get_or_default}
+-- Nodes that are left and have neighbours of lower rank: what is left is connected, and stays so without the nodes of a way that the others can spare.
+use Rattle.std.proofs.Common.{◌≡◌, ℕ, zero, suc, ◌+◌, ◌<◌, ◌≤◌, Bool, true, false, List, [], ◌∷◌, ◌++◌, length, refl, sym, subst, ap, ◌∙◌, inl, inr, arith}
+use Rattle.std.proofs.lemmas.Bool.{cases_Bool, cases_eq, both_ways, or_cases, not-true, not_from_false}
+use Rattle.std.proofs.lemmas.List.{length_push}
 use Rattle.tomo_base.specs.Network.{Network, linked, IsGraph}
-use Rattle.tomo_base.specs.Sets.{has, touches, complement}
+use Rattle.tomo_base.specs.Sets.{has, complement}
 use Rattle.tomo_base.specs.Walks.{Reaches, IsConnectedIn}
 use Rattle.tomo_base.specs.Search.{mark_of, entry_at, IsSearch}
 use Rattle.tomo_base.proofs.Ascending.{place_in}
 use Rattle.tomo_base.proofs.Links.{linked_below, linked_comm}
 use Rattle.tomo_base.proofs.Reached.{parent_at}
 use Rattle.tomo_base.proofs.Walks.{Reaches-after, Reaches_comm, connected_by}
-use Rattle.ear_order.specs.Ears.{IsEar, with_ear}
-use Rattle.ear_order.specs.Turns.{between, IsLeft, AreLeft}
-use Rattle.ear_order.specs.Easy.{IsFounded, CanGo, IsEasy}
-use Rattle.ear_order.proofs.Lists.{has_between}
+use Rattle.ear_order.specs.Ears.{with_ear}
+use Rattle.ear_order.specs.Turns.{IsLeft, AreLeft}
+use Rattle.ear_order.specs.Easy.{IsFounded, IsOpenEar, EndsAt, CanGo, IsEasy}
 use Rattle.ear_order.proofs.Parting.{part_from}
-use Rattle.ear_order.proofs.Places.{run_at}
 use Rattle.ear_order.proofs.Spreading.{touch_from}
+use Rattle.ear_order.proofs.Ways.{off_old, inner_place, u_not_gone, way_ear, way_gone, way_inner}
 use Rattle.ear_order.proofs.Turning.{all_left, new_rest, rest_new}
 
 -- after a search from u of all that is left, each other node has its parent
@@ -53,66 +52,40 @@ module _ (g : Network) (graph : IsGraph g) (old : ℕ → Bool) (rank : ℕ → 
   founded_connected third = connected_by g (complement old) u (not_from_false (old u) third)
       (λ v l t. Reaches_comm g (complement old) v u t (way_to (suc (rank v)) v (omega arith) l (not-true (old v) t)))
 
-module _ (g : Network) (graph : IsGraph g) (old : ℕ → Bool) (rank : ℕ → ℕ) (u : ℕ) (founded : IsFounded g old rank u) where
-  module _ (v w : ℕ) (go : CanGo g old rank v w) (later : ℕ → Bool) (gone : (x : ℕ) → later x ≡ false → (old x ≡ false) × (x ≢ v) × (x ≢ w))
-      (kept : (x : ℕ) → old x ≡ false → x ≢ v → x ≢ w → later x ≡ false) where
-    -- where v and w go, each other node keeps a neighbour of lower rank
-    pub stays_founded : IsFounded g later rank u
-    stays_founded x l new other =
-        let was = gone x new in
-        let y = founded x l was.0 other in
-        elim (cases_eq y.0 v) [
-          | inl same ↦
-              let z = go.first_spared x (linked_comm g x v (subst (λ k. linked g x k ≡ true) same y.1)) was.0 was.2 (subst (λ k. rank k < rank x) same y.3) in
-              (z.0, z.1, kept z.0 z.2 z.4 z.5, z.3)
-          | inr off_v ↦ elim (cases_eq y.0 w) [
-            | inl same ↦
-                let z = go.second_spared x (linked_comm g x w (subst (λ k. linked g x k ≡ true) same y.1)) was.0 was.1 (subst (λ k. rank k < rank x) same y.3) in
-                (z.0, z.1, kept z.0 z.2 z.5 z.4, z.3)
-            | inr off_w ↦ (y.0, y.1, kept y.0 y.2 off_v off_w, y.3)
-          ]
+module _ (g : Network) (graph : IsGraph g) (old : ℕ → Bool) (rank : ℕ → ℕ) (u : ℕ) (founded : IsFounded g old rank u) (third : old u ≡ false) (gone : ℕ → Bool) (way : List ℕ) (is : IsOpenEar g old gone u way)
+    (can : (k : ℕ) → 1 ≤ k → k < length way → CanGo g gone rank (entry_at way k)) where
+  -- where the nodes of a way can go, each other node keeps a neighbour of lower rank
+  stays_founded : IsFounded g gone rank u
+  stays_founded x l new other =
+      let y = founded x l (off_old g old u gone way is x new) other in
+      elim (cases_Bool (gone y.0)) [
+        | inl went ↦ elim (or_cases (old y.0) (has way y.0) (sym (is.gone_are y.0) ∙ went)) [
+          | inl o ↦ absurd (both_ways (old y.0) y.2 o)
+          | inr at ↦
+              let k = inner_place g old u gone way is y.0 at y.2 in
+              let z = (subst (CanGo g gone rank) k.3 (can k.0 k.1 k.2)).1 x (linked_comm g x y.0 y.1) new y.3 in
+              (z.0, z.1, z.2, z.3)
         ]
+        | inr stays ↦ (y.0, y.1, stays, y.3)
+      ]
 
-  -- an ear with v and w alone between its ends is easy, where they can go
-  module _ (e : List ℕ) (ear : IsEar g old e) (v w : ℕ) (go : CanGo g old rank v w) (first : has e v ≡ true) (second : has e w ≡ true)
-      (inner : (x : ℕ) → between e x ≡ true → (x ≡ v) ⊎ (x ≡ w)) (third : old u ≡ false) (v_other : v ≢ u) (w_other : w ≢ u) where
-    with_gone : (x : ℕ) → with_ear old e x ≡ false → (old x ≡ false) × (x ≢ v) × (x ≢ w)
-    with_gone x h = (
-      false_from_ne_true (old x) (λ o. both_ways (with_ear old e x) h (or_left (old x) (has e x) o)),
-      λ same. both_ways (with_ear old e x) h (or_right (old x) (has e x) (subst (λ z. has e z ≡ true) (sym same) first)),
-      λ same. both_ways (with_ear old e x) h (or_right (old x) (has e x) (subst (λ z. has e z ≡ true) (sym same) second)),
-    )
-
-    with_kept : (x : ℕ) → old x ≡ false → x ≢ v → x ≢ w → with_ear old e x ≡ false
-    with_kept x new off_v off_w = false_from_ne_true (with_ear old e x) (λ h. elim (or_cases (old x) (has e x) h) [
-      | inl o ↦ both_ways (old x) new o
-      | inr at ↦ elim (has_between g old e ear x at) [ inl o ↦ both_ways (old x) new o | inr mid ↦ elim (inner x mid) [ inl same ↦ off_v same | inr same ↦ off_w same ] ]
-    ])
-
-    with_founded : IsFounded g (with_ear old e) rank u
-    with_founded = stays_founded v w go (with_ear old e) with_gone with_kept
-
-    -- it touches what is left then
-    inner_touched : (x y : ℕ) → linked g x y ≡ true → old y ≡ false → y ≢ v → y ≢ w → touches g (complement (with_ear old e)) x ≡ true
-    inner_touched x y l new off_v off_w = touch_from g graph (complement (with_ear old e)) y x (not_from_false (with_ear old e y) (with_kept y new off_v off_w)) (linked_comm g x y l)
-
-    pub easy_from : IsEasy g old rank u e
-    easy_from =
-        let out : with_ear old e u ≡ false = with_kept u third (λ same. v_other (sym same)) (λ same. w_other (sym same)) in
-        let one = go.first_touched in
-        let two = go.second_touched in
-        record {
-          is_ear = ear;
-          founded = with_founded;
-          goes_on = record {
-            third = out;
-            connected = founded_connected g graph (with_ear old e) rank u with_founded out;
-            touched = λ k d low high.
-                let x = get_or e k d in
-                let mid : between e x ≡ true = subst (λ z. between e z ≡ true) (get_or_default e k 0 d (omega (arith, high))) (run_at (entry_at e) 1 (length e - 1) k low high) in
-                elim (inner x mid) [
-                  | inl same ↦ subst (λ z. touches g (complement (with_ear old e)) z ≡ true) (sym same) (inner_touched v one.0 one.1 one.2 one.4 one.5)
-                  | inr same ↦ subst (λ z. touches g (complement (with_ear old e)) z ≡ true) (sym same) (inner_touched w two.0 two.1 two.2 two.4 two.5)
-                ];
-          };
-        }
+  -- so the ear that it becomes is easy
+  pub easy_from : (l : ℕ) → EndsAt g old way l → IsEasy g old rank u (way ++ l ∷ [])
+  easy_from l end =
+      let e = way ++ l ∷ [] in
+      let same = way_gone g old u gone way is l end in
+      let founded' : IsFounded g (with_ear old e) rank u = founded_same g gone (with_ear old e) rank u same stays_founded in
+      let out : with_ear old e u ≡ false = sym (same u) ∙ u_not_gone g old u gone way is third in
+      let size : length e ≡ length way + 1 = length_push way l in
+      record {
+        is_ear = way_ear g old u gone way is l end;
+        founded = founded';
+        goes_on = record {
+          third = out;
+          connected = founded_connected g graph (with_ear old e) rank u founded' out;
+          touched = λ k d low high.
+              let y = (can k (omega (arith, low)) (omega (arith, high, size))).0 in
+              rw (way_inner g old u gone way is l end k d (omega (arith, high, size)))
+              (touch_from g graph (complement (with_ear old e)) y.0 (entry_at way k) (not_from_false (with_ear old e y.0) (sym (same y.0) ∙ y.2)) (linked_comm g (entry_at way k) y.0 y.1));
+        };
+      }

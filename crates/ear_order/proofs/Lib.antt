@@ -18,5 +18,5 @@ pub mod Ordering
 pub mod Starting
 pub mod InEars
 pub mod Founding
-pub mod EasyEars
+pub mod Ways
 pub mod Putting

@@ -1,120 +1,104 @@
-// Easy ears: after them the order goes on, which is seen from the neighbours of their one or two inner nodes.
-ghost use Rattle.std.specs.Prelude.{◌≡◌, ◌≢◌, ◌<◌, ℕ, length, All, IfOk, OnOk, IfSome, ◌≤◌, true, false};
-ghost use Rattle.tomo_base.specs.Network.{linked};
+// Easy ears: after them the order goes on, which is seen from the neighbours of their inner nodes.
+ghost use Rattle.std.specs.Prelude.{◌≡◌, ◌≢◌, ◌-◌, ◌<◌, ◌≤◌, ℕ, length, All, IfOk, IfSome, IfNone, OnOk, true, false};
 ghost use Rattle.tomo_base.specs.Search.{mark_of, entry_at};
-ghost use Rattle.ear_order.specs.Easy.{IsFounded, HasLower, IsSpared, CanGo, IsEasy};
-ghost use Rattle.ear_order.specs.Turns.{IsLeft};
+ghost use Rattle.ear_order.specs.Ears.{with_ear};
+ghost use Rattle.ear_order.specs.Easy.{IsFounded, IsOpenEar, GoesOnTo, EndsAt, IsEasy};
 
-use crate::marks::left;
+use crate::marks::mark;
 use crate::near::near;
+use crate::sparing::{all_can_go, has_lower, is_spared};
 use std::alloc::{AllocError, Global};
-use tomo_base::{Graph, NoMemory, Swept, sweep};
+use tomo_base::Graph;
 
-/// A search of all nodes that are left, from `u`, with those far from `u` first in the order: each but `u` has a neighbour of lower rank.
-pub fn founded(alloc: Global, g: &Graph, old: &[bool], u: u32) -> Result<Swept, NoMemory>
-    requires { IsLeft g.now old.now u }
-    ensures nodes { IfOk result (λ s. All (λ v. v < g.now.nodes) s.order.items) }
-    ensures ranks { IfOk result (λ s. length s.rank.items ≡ g.now.nodes) }
-    ensures founded { IfOk result (λ s. IsFounded g.now (mark_of old.now) (entry_at s.rank.items) u) }
-{
-    let _nodes = g.nodes();
-    let rest = left(alloc, old)?;
-    let mut found = sweep(alloc, g, &rest, &[u])?;
-    found.order.reverse();
-    Ok(found)
-}
-
-// Whether x has a neighbour that is left, has a rank below this one, and is neither v nor w.
-fn has_lower(g: &Graph, old: &[bool], rank: &[u32], x: u32, below: u32, v: u32, w: u32) -> bool
-    requires node { x < g.now.nodes }
-    requires marks { length old.now ≡ g.now.nodes }
+// A neighbour of the end of a way to which the way can go on: the last, or one that is next to a node of an ear other than `first`.
+fn next_over(
+    g: &Graph,
+    old: &[bool],
+    gone: &[bool],
+    rank: &[u32],
+    u: u32,
+    end: u32,
+    first: u32,
+) -> Option<u32>
+    requires node { end < g.now.nodes }
+    requires old { length old.now ≡ g.now.nodes }
+    requires gone { length gone.now ≡ g.now.nodes }
     requires ranks { length rank.now ≡ g.now.nodes }
-    ensures yes { result ≡ true → HasLower g.now (mark_of old.now) (entry_at rank.now) x below v w }
-    ensures no { result ≡ false → HasLower g.now (mark_of old.now) (entry_at rank.now) x below v w → false ≡ true }
-{
-    let _nodes = g.nodes();
-    for hop in g.hops(x) {
-        let y = hop.node;
-        if !old[y as usize] && rank[y as usize] < below && y != v && y != w {
-            return true;
-        }
-    }
-    false
-}
-
-// Whether each neighbour of v that is left and has a higher rank, other than w, has a neighbour of lower rank beside v and w.
-fn is_spared(g: &Graph, old: &[bool], rank: &[u32], v: u32, w: u32) -> bool
-    requires node { v < g.now.nodes }
-    requires marks { length old.now ≡ g.now.nodes }
-    requires ranks { length rank.now ≡ g.now.nodes }
-    ensures yes { result ≡ true → IsSpared g.now (mark_of old.now) (entry_at rank.now) v w }
-    ensures no { result ≡ false → IsSpared g.now (mark_of old.now) (entry_at rank.now) v w → false ≡ true }
-{
-    let _nodes = g.nodes();
-    let mine = rank[v as usize];
-    for hop in g.hops(v) {
-        let x = hop.node;
-        let its = rank[x as usize];
-        if !old[x as usize] && x != w && mine < its && !has_lower(g, old, rank, x, its, v, w) {
-            return false;
-        }
-    }
-    true
-}
-
-// Whether what is left stays founded without v and w, and touches both.
-fn can_go(g: &Graph, old: &[bool], rank: &[u32], v: u32, w: u32) -> bool
-    requires first { v < g.now.nodes }
-    requires second { w < g.now.nodes }
-    requires marks { length old.now ≡ g.now.nodes }
-    requires ranks { length rank.now ≡ g.now.nodes }
-    ensures yes { result ≡ true → CanGo g.now (mark_of old.now) (entry_at rank.now) v w }
-    ensures no { result ≡ false → CanGo g.now (mark_of old.now) (entry_at rank.now) v w → false ≡ true }
+    ensures { IfSome result (λ w. GoesOnTo g.now (mark_of gone.now) u end w) }
 {
     let n = g.nodes();
-    has_lower(g, old, rank, v, n, v, w)
-        && has_lower(g, old, rank, w, n, v, w)
-        && is_spared(g, old, rank, v, w)
-        && is_spared(g, old, rank, w, v)
-}
-
-// The last node of an ear from `first` over v to w and on, where v and w can go; an ear over one node has it for both.
-fn last_over(g: &Graph, old: &[bool], rank: &[u32], v: u32, w: u32, first: u32) -> Option<u32>
-    requires first { v < g.now.nodes }
-    requires second { w < g.now.nodes }
-    requires marks { length old.now ≡ g.now.nodes }
-    requires ranks { length rank.now ≡ g.now.nodes }
-    ensures link { IfSome result (λ l. linked g.now w l ≡ true) }
-    ensures marked { IfSome result (λ l. mark_of old.now l ≡ true) }
-    ensures differs { IfSome result (λ l. l ≢ first) }
-    ensures goes { IfSome result (λ l. CanGo g.now (mark_of old.now) (entry_at rank.now) v w) }
-{
-    let Some(last) = near(g, w, old, first) else {
-        return None;
-    };
-    if can_go(g, old, rank, v, w) {
-        Some(last)
-    } else {
-        None
+    let mut any = None;
+    for hop in g.hops(end) {
+        let w = hop.node;
+        if w != u
+            && !gone[w as usize]
+            && has_lower(g, gone, rank, end, n, w)
+            && is_spared(g, gone, rank, w)
+        {
+            any = Some(w);
+            if near(g, w, old, first).is_some() {
+                return any;
+            }
+        }
     }
+    any
 }
 
-/// An easy ear over v alone, or over v and a neighbour. None where there is no such ear, or where v is `u` or stands in an ear. It costs the
-/// links of v, of its neighbours and of theirs.
-pub fn easy(
+// Goes on with a way until it can end at a node of an ear other than its first, which is answered. None where it cannot go on, or not yet end
+// after sixteen nodes.
+fn extend_way(
+    g: &Graph,
+    old: &[bool],
+    rank: &[u32],
+    u: u32,
+    gone: &mut Vec<bool>,
+    way: &mut Vec<u32>,
+) -> Result<Option<u32>, AllocError>
+    requires old { length old.now ≡ g.now.nodes }
+    requires gone { length gone.old.items ≡ g.now.nodes }
+    requires ranks { length rank.now ≡ g.now.nodes }
+    requires way { IsOpenEar g.now (mark_of old.now) (mark_of gone.old.items) u way.old.items }
+    ensures size { OnOk result (length gone.new.items ≡ g.now.nodes) }
+    ensures way { OnOk result (IsOpenEar g.now (mark_of old.now) (mark_of gone.new.items) u way.new.items) }
+    ensures end { IfOk result (λ o. IfSome o (EndsAt g.now (mark_of old.now) way.new.items)) }
+{
+    let _nodes = g.nodes();
+    for _ in 0..16 {
+        let end = way[way.len() - 1];
+        if let Some(last) = near(g, end, old, way[0]) {
+            return Ok(Some(last));
+        }
+        let Some(w) = next_over(g, old, gone, rank, u, end, way[0]) else {
+            return Ok(None);
+        };
+        way.push(w)?;
+        gone[w as usize] = true;
+    }
+    Ok(None)
+}
+
+// An easy ear whose second node is v. None where none was found, or where v is `u` or stands in an ear. `gone` are the marks of the nodes in
+// ears; where there is an ear its nodes are marked there. It costs the links around each node that is tried.
+fn easy(
     alloc: Global,
     g: &Graph,
     old: &[bool],
     rank: &[u32],
     u: u32,
+    gone: &mut Vec<bool>,
     v: u32,
 ) -> Result<Option<Vec<u32>>, AllocError>
     requires node { v < g.now.nodes }
-    requires third { (u < g.now.nodes) × (mark_of old.now u ≡ false) }
-    requires marks { length old.now ≡ g.now.nodes }
+    requires third { mark_of old.now u ≡ false }
+    requires old { length old.now ≡ g.now.nodes }
+    requires gone { length gone.old.items ≡ g.now.nodes }
     requires ranks { length rank.now ≡ g.now.nodes }
     requires founded { IsFounded g.now (mark_of old.now) (entry_at rank.now) u }
-    ensures { IfOk result (λ o. IfSome o (λ e. IsEasy g.now (mark_of old.now) (entry_at rank.now) u e.items)) }
+    requires same { (w : ℕ) → mark_of gone.old.items w ≡ mark_of old.now w }
+    ensures size { OnOk result (length gone.new.items ≡ g.now.nodes) }
+    ensures ear { IfOk result (λ o. IfSome o (λ e. IsEasy g.now (mark_of old.now) (entry_at rank.now) u e.items)) }
+    ensures some { IfOk result (λ o. IfSome o (λ e. (w : ℕ) → mark_of gone.new.items w ≡ with_ear (mark_of old.now) e.items w)) }
+    ensures none { IfOk result (λ o. IfNone o ((w : ℕ) → mark_of gone.new.items w ≡ mark_of old.now w)) }
 {
     if v == u || old[v as usize] {
         return Ok(None);
@@ -122,18 +106,19 @@ pub fn easy(
     let Some(first) = near(g, v, old, g.nodes()) else {
         return Ok(None);
     };
-    if let Some(last) = last_over(g, old, rank, v, v, first) {
-        return Ok(Some([first, v, last].to_vec(alloc)?));
+    if !is_spared(g, gone, rank, v) {
+        return Ok(None);
     }
-    for hop in g.hops(v) {
-        let w = hop.node;
-        if w != u
-            && !old[w as usize]
-            && let Some(last) = last_over(g, old, rank, v, w, first)
-        {
-            return Ok(Some([first, v, w, last].to_vec(alloc)?));
-        }
+    let mut way = [first, v].to_vec(alloc)?;
+    gone[v as usize] = true;
+    let end = extend_way(g, old, rank, u, gone, &mut way)?;
+    if let Some(last) = end
+        && all_can_go(g, gone, rank, &way)
+    {
+        way.push(last)?;
+        return Ok(Some(way));
     }
+    mark(gone, &way[1..], false);
     Ok(None)
 }
 
@@ -144,54 +129,33 @@ pub struct Found {
     pub ear: Vec<u32>,
 }
 
-/// An easy ear over the first node of the list, from a place on, that has one.
+/// An easy ear over the first node of the list, from a place on, that has one; its nodes are marked in `gone`.
 pub fn first_easy(
     alloc: Global,
     g: &Graph,
     old: &[bool],
     rank: &[u32],
     u: u32,
+    gone: &mut Vec<bool>,
     nodes: &[u32],
     from: usize,
 ) -> Result<Option<Found>, AllocError>
     requires nodes { All (λ v. v < g.now.nodes) nodes.now }
-    requires third { (u < g.now.nodes) × (mark_of old.now u ≡ false) }
-    requires marks { length old.now ≡ g.now.nodes }
+    requires third { mark_of old.now u ≡ false }
+    requires old { length old.now ≡ g.now.nodes }
+    requires gone { length gone.old.items ≡ g.now.nodes }
     requires ranks { length rank.now ≡ g.now.nodes }
     requires founded { IsFounded g.now (mark_of old.now) (entry_at rank.now) u }
+    requires same { (w : ℕ) → mark_of gone.old.items w ≡ mark_of old.now w }
+    ensures size { OnOk result (length gone.new.items ≡ g.now.nodes) }
     ensures place { IfOk result (λ o. IfSome o (λ f. f.place < length nodes.now)) }
     ensures ear { IfOk result (λ o. IfSome o (λ f. IsEasy g.now (mark_of old.now) (entry_at rank.now) u f.ear.items)) }
+    ensures some { IfOk result (λ o. IfSome o (λ f. (w : ℕ) → mark_of gone.new.items w ≡ with_ear (mark_of old.now) f.ear.items w)) }
 {
     for place in from..nodes.len() {
-        if let Some(ear) = easy(alloc, g, old, rank, u, nodes[place])? {
+        if let Some(ear) = easy(alloc, g, old, rank, u, gone, nodes[place])? {
             return Ok(Some(Found { place, ear }));
         }
     }
     Ok(None)
-}
-
-/// Puts the neighbours of the node at the end of the list.
-fn add_near(g: &Graph, v: u32, nodes: &mut Vec<u32>) -> Result<(), AllocError>
-    requires node { v < g.now.nodes }
-    requires nodes { All (λ w. w < g.now.nodes) nodes.old.items }
-    ensures { OnOk result (All (λ w. w < g.now.nodes) nodes.new.items) }
-{
-    let _nodes = g.nodes();
-    for hop in g.hops(v) {
-        nodes.push(hop.node)?;
-    }
-    Ok(())
-}
-
-/// Puts the neighbours of the nodes between the ends of the ear at the end of the list.
-pub fn add_near_ear(g: &Graph, ear: &[u32], nodes: &mut Vec<u32>) -> Result<(), AllocError>
-    requires long { 2 ≤ length ear.now }
-    requires ear { All (λ v. v < g.now.nodes) ear.now }
-    requires nodes { All (λ w. w < g.now.nodes) nodes.old.items }
-    ensures { OnOk result (All (λ w. w < g.now.nodes) nodes.new.items) }
-{
-    for &v in &ear[1..ear.len() - 1] {
-        add_near(g, v, nodes)?;
-    }
-    Ok(())
 }

@@ -8,6 +8,7 @@ mod near;
 mod orders;
 mod parts;
 mod paths;
+mod sparing;
 mod turns;
 
 pub use orders::{EarOrder, Step, order};

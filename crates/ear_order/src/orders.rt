@@ -7,8 +7,9 @@ ghost use Rattle.ear_order.specs.Easy.{AreMarks, with_one_ear, IsLonger};
 ghost use Rattle.ear_order.specs.Turns.{ContinuesWith};
 
 use crate::candidates::facing;
-use crate::easy::{add_near_ear, first_easy, founded};
+use crate::easy::first_easy;
 use crate::marks::{first_unmarked, in_some_ear, mark};
+use crate::sparing::{add_near_ear, founded};
 use crate::turns::next_ear;
 use std::alloc::{AllocError, Global};
 use std::marker::Model;
@@ -149,8 +150,9 @@ fn add_easy(ears: &mut EarOrder, alloc: Global, g: &Graph, u: u32) -> Result<(),
     }
     let tree = founded(alloc, g, &old, u)?;
     let mut asked = tree.order;
+    let mut gone = old.to_vec(alloc)?;
     let mut from = 0;
-    while let Some(found) = first_easy(alloc, g, &old, &tree.rank, u, &asked, from)? {
+    while let Some(found) = first_easy(alloc, g, &old, &tree.rank, u, &mut gone, &asked, from)? {
         from = found.place + 1;
         add_near_ear(g, &found.ear, &mut asked)?;
         ears.put(&mut old, found.ear)?;
@@ -158,9 +160,9 @@ fn add_easy(ears: &mut EarOrder, alloc: Global, g: &Graph, u: u32) -> Result<(),
     Ok(())
 }
 
-/// An ear order of all nodes, as of Cheriyan and Maheshwari (1988). Most ears are easy: they are found by a few looks around their nodes, once
-/// a search has given each node that is left a rank. Where no node has an easy ear, one is found by a few searches a turn, at most as many
-/// turns as there are nodes, and the ranks are given anew: once or twice in most networks, for one ear in six where each node has three links.
+/// An ear order of all nodes, as of Cheriyan and Maheshwari (1988). Nearly all ears are easy: they are found by a few looks around their nodes,
+/// once a search has given each node that is left a rank. Where no node has an easy ear, one is found by a few searches a turn, at most as many
+/// turns as there are nodes, and the ranks are given anew: that is a handful of times in a thousand nodes.
 pub fn order(alloc: Global, g: &Graph, r: u32, t: u32, u: u32) -> Result<EarOrder, NoMemory>
     requires three { IsThreeConnected g.now }
     requires ends { AreEnds g.now r t u }

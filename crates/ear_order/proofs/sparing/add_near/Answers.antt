@@ -2,7 +2,7 @@ use Rattle.std.proofs.Common.{◌<◌, get_or, refl}
 use Rattle.std.proofs.lemmas.List.Elements.{All-push}
 use Rattle.tomo_base.specs.declared.graph.Hop.{Hop}
 use Rattle.tomo_base.proofs.Rows.{hops_below}
-use Rattle.ear_order.proofs.easy.add_near.Goals as goal
+use Rattle.ear_order.proofs.sparing.add_near.Goals as goal
 
 pub loop-hop-preserved : goal.loop-hop-preserved
 loop-hop-preserved c =

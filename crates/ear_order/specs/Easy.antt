@@ -1,4 +1,4 @@
--- Ears after which the order goes on for a reason that is seen near them: each node that is left keeps a neighbour of lower rank.
+-- Ears after which the order goes on, as is seen near them: each node that is left keeps a neighbour of lower rank.
 use Rattle.std.specs.Prelude.{ℕ, ◌≡◌, ◌≢◌, ◌-◌, ◌<◌, ◌≤◌, suc, Bool, true, false, List, [], ◌∷◌, ◌++◌, length}
 use Rattle.tomo_base.specs.Network.{Network, linked}
 use Rattle.tomo_base.specs.Search.{mark_of, entry_at}
@@ -6,7 +6,8 @@ use Rattle.ear_order.specs.Ears.{Ears, IsEar, with_ear, in_ears, LeavesConnected
 
 -- each node that is left, other than u, has a neighbour of lower rank that is left
 abbrev pub IsFounded : Network → (ℕ → Bool) → (ℕ → ℕ) → ℕ → Type 0
-IsFounded g old rank u = (v : ℕ) → v < g.nodes → old v ≡ false → v ≢ u → (y : ℕ) × (linked g v y ≡ true) × (old y ≡ false) × (rank y < rank v)
+IsFounded g old rank u = (v : ℕ) → v < g.nodes → old v ≡ false → v ≢ u
+    → (y : ℕ) × (linked g v y ≡ true) × (old y ≡ false) × (rank y < rank v)
 
 -- a neighbour of x that is left has a rank below this one, and is not w
 abbrev pub HasLower : Network → (ℕ → Bool) → (ℕ → ℕ) → ℕ → ℕ → ℕ → Type 0
@@ -19,6 +20,10 @@ IsSpared g gone rank v = (x : ℕ) → linked g v x ≡ true → gone x ≡ fals
 -- v is linked to what is left beside it, and is spared
 abbrev pub CanGo : Network → (ℕ → Bool) → (ℕ → ℕ) → ℕ → Type 0
 CanGo g gone rank v = HasLower g gone rank v g.nodes v × IsSpared g gone rank v
+
+-- each node of the way but its first can go
+abbrev pub AllCanGo : Network → (ℕ → Bool) → (ℕ → ℕ) → List ℕ → Type 0
+AllCanGo g gone rank way = (k : ℕ) → 1 ≤ k → k < length way → CanGo g gone rank (entry_at way k)
 
 -- an ear without its last node: from an old node over nodes that are left, none of them u; gone are the old nodes and those of the way
 pub record IsOpenEar (g : Network) (old gone : ℕ → Bool) (u : ℕ) (way : List ℕ) : Type 0 where

@@ -44,8 +44,8 @@ fn next_over(
     any
 }
 
-// Goes on with a way until it can end at a node of an ear other than its first, which is answered. None where it cannot go on, or not yet end
-// after sixteen nodes.
+// Goes on with a way until it can end at a node of an ear other than its first, which is answered. None where it cannot go on, or
+// cannot end after sixteen nodes.
 fn extend_way(
     g: &Graph,
     old: &[bool],
@@ -77,8 +77,8 @@ fn extend_way(
     Ok(None)
 }
 
-// An easy ear whose second node is v. None where none was found, or where v is `u` or stands in an ear. `gone` are the marks of the nodes in
-// ears; where there is an ear its nodes are marked there. It costs the links around each node that is tried.
+// An easy ear whose second node is v. None where none was found, or where v is `u` or stands in an ear. `gone` are the marks of the
+// nodes in ears; where there is an ear its nodes are marked there. It costs the links around each node that is tried.
 fn easy(
     alloc: Global,
     g: &Graph,

@@ -135,8 +135,8 @@ impl EarOrder {
     }
 }
 
-// Adds easy ears, one after the other, until no node has one: at first those far from `u` are asked, and then the neighbours of each node that
-// an ear takes. It costs one search of the graph, and a few looks around each node that is asked.
+// Adds easy ears, one after the other, until no node has one: at first the nodes far from `u` are asked, and then the neighbours of
+// each node that an ear takes. It costs one search of the graph, and a few looks around each node that is asked.
 fn add_easy(ears: &mut EarOrder, alloc: Global, g: &Graph, u: u32) -> Result<(), NoMemory>
     requires graph { ears.old.graph ≡ g.now }
     requires third { ears.old.u ≡ u }
@@ -160,9 +160,9 @@ fn add_easy(ears: &mut EarOrder, alloc: Global, g: &Graph, u: u32) -> Result<(),
     Ok(())
 }
 
-/// An ear order of all nodes, as of Cheriyan and Maheshwari (1988). Nearly all ears are easy: they are found by a few looks around their nodes,
-/// once a search has given each node that is left a rank. Where no node has an easy ear, one is found by a few searches a turn, at most as many
-/// turns as there are nodes, and the ranks are given anew: that is a handful of times in a thousand nodes.
+/// An ear order of all nodes, as of Cheriyan and Maheshwari (1988). Nearly all ears are easy: they are found by a few looks around
+/// their nodes, once a search has given each node that is left a rank. Where no node has an easy ear, one is found by a few searches a
+/// turn, at most as many turns as there are nodes, and the ranks are given anew: a handful of times in networks of a thousand nodes.
 pub fn order(alloc: Global, g: &Graph, r: u32, t: u32, u: u32) -> Result<EarOrder, NoMemory>
     requires three { IsThreeConnected g.now }
     requires ends { AreEnds g.now r t u }

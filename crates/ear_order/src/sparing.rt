@@ -2,7 +2,7 @@
 ghost use Rattle.std.specs.Prelude.{◌≡◌, ◌≢◌, ◌<◌, ◌≤◌, ℕ, length, All, IfOk, OnOk, true, false};
 ghost use Rattle.tomo_base.specs.Search.{mark_of, entry_at};
 ghost use Rattle.ear_order.specs.Turns.{IsLeft};
-ghost use Rattle.ear_order.specs.Easy.{IsFounded, HasLower, IsSpared, CanGo};
+ghost use Rattle.ear_order.specs.Easy.{IsFounded, HasLower, IsSpared, CanGo, AllCanGo};
 
 use crate::marks::left;
 use std::alloc::{AllocError, Global};
@@ -76,7 +76,7 @@ pub fn all_can_go(g: &Graph, gone: &[bool], rank: &[u32], way: &[u32]) -> bool
     requires way { All (λ v. v < g.now.nodes) way.now }
     requires gone { length gone.now ≡ g.now.nodes }
     requires ranks { length rank.now ≡ g.now.nodes }
-    ensures { result ≡ true → (k : ℕ) → 1 ≤ k → k < length way.now → CanGo g.now (mark_of gone.now) (entry_at rank.now) (entry_at way.now k) }
+    ensures { result ≡ true → AllCanGo g.now (mark_of gone.now) (entry_at rank.now) way.now }
 {
     for k in 1..way.len() {
         if !can_go(g, gone, rank, way[k]) {

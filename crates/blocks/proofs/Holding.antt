@@ -17,7 +17,7 @@ use Rattle.gate_search.specs.Gates.{IsGate}
 use Rattle.gate_search.specs.Trees.{IsRanked}
 use Rattle.gate_search.specs.Stops.{IsGateSearch}
 use Rattle.gate_search.specs.declared.search.GateSearch.{GateSearch}
-use Rattle.gate_search.proofs.Hops.{hop_linked}
+use Rattle.tomo_base.proofs.Rows.{hop_linked}
 use Rattle.gate_search.proofs.Marks.{still_gone}
 use Rattle.gate_search.proofs.Trees.{ranked_at, ranked_free, is_tree, parent_linked, first_in, ranked_in}
 use Rattle.blocks.specs.Growing.{IsGrown, IsWay}

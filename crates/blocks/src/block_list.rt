@@ -9,13 +9,13 @@ ghost use Rattle.tomo_base.specs.SetLists.{IsSetBelow, AreSetsWith, AreAllSets, 
 ghost use Rattle.blocks.specs.Working.{IsPart, IsPutOff, Working, weight_of};
 
 use crate::growing::{Growth, begin, hold_way, step};
-use crate::marks::{marked, marks_of, unmark};
+use crate::marks::{marked, unmark};
 use crate::node_lists::ordered_sets;
 use crate::sides::sides_at;
 use gate_search::{GateSearch, take_free};
 use std::alloc::Global;
 use std::marker::Model;
-use tomo_base::{Graph, NoMemory, NodeSet, NodeSets};
+use tomo_base::{Graph, NoMemory, NodeSet, NodeSets, marks_of};
 
 /// The cut vertices and the blocks of a graph.
 #[derive(Drop)]

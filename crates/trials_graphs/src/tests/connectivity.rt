@@ -1,7 +1,7 @@
 // Graphs are tested for three-connectivity, and extended, where memory is ample.
 use crate::tests::shapes::{CHORD, COMPLETE, PRISM, SHARING_A_PAIR, Shape, graph_of, lies_in};
 use extended_graph::{extend, three_connected_by_monitors};
-use samples::set_of;
+use samples::{graph_with, set_of};
 use std::alloc::Global;
 use std::test::Fail;
 use three_conn::{Conn, three_connected};
@@ -21,20 +21,14 @@ fn answers(alloc: Global, shape: &Shape, cut: Option<&[u32]>) -> Result<bool, Fa
 
 #[test]
 fn a_triangle_has_few_nodes(rt: HostRuntime) -> Result<(), Fail> {
-    let links = [Link { a: 0, b: 1 }, Link { a: 2, b: 0 }];
-    let g = Graph::new(rt.alloc(), 3, &links)?;
+    let g = graph_with(rt.alloc(), 3, &[(0, 1), (2, 0)])?;
     assert!(rt; matches!(three_connected(rt.alloc(), &g)?, Conn::Few));
     Ok(())
 }
 
 #[test]
 fn a_node_apart_is_parted_from_a_triangle(rt: HostRuntime) -> Result<(), Fail> {
-    let links = [
-        Link { a: 0, b: 1 },
-        Link { a: 1, b: 2 },
-        Link { a: 2, b: 0 },
-    ];
-    let g = Graph::new(rt.alloc(), 4, &links)?;
+    let g = graph_with(rt.alloc(), 4, &[(0, 1), (1, 2), (2, 0)])?;
     assert!(rt; matches!(three_connected(rt.alloc(), &g)?, Conn::Cut(cut) if !cut.has(3)));
     Ok(())
 }

@@ -41,16 +41,9 @@ fn lies_in_block(nodes: &[u32], block: &NodeSet) -> bool {
 }
 
 #[test]
-fn blocks_of_small_graphs(rt: HostRuntime) -> Result<(), Fail> {
+fn blocks_and_three_blocks_of_small_graphs(rt: HostRuntime) -> Result<(), Fail> {
     for shape in SHAPES {
         assert!(rt; has_blocks(rt.alloc(), &shape)?);
-    }
-    Ok(())
-}
-
-#[test]
-fn three_blocks_of_small_graphs(rt: HostRuntime) -> Result<(), Fail> {
-    for shape in SHAPES {
         for block in 0..3u32 {
             assert!(rt; has_three_blocks(rt.alloc(), &shape, block)?);
         }

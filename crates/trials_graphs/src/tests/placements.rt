@@ -40,16 +40,9 @@ fn has_pockets(alloc: Global, shape: &Shape) -> Result<bool, Fail> {
 }
 
 #[test]
-fn lowest_sets_of_small_graphs(rt: HostRuntime) -> Result<(), Fail> {
+fn lowest_sets_of_small_graphs_and_their_pockets(rt: HostRuntime) -> Result<(), Fail> {
     for shape in SHAPES {
         assert!(rt; both_are_lowest(rt.alloc(), &shape)?);
-    }
-    Ok(())
-}
-
-#[test]
-fn pockets_of_lowest_sets(rt: HostRuntime) -> Result<(), Fail> {
-    for shape in SHAPES {
         assert!(rt; has_pockets(rt.alloc(), &shape)?);
     }
     Ok(())

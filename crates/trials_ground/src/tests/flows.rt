@@ -2,7 +2,7 @@
 ghost use Rattle.std.specs.Prelude.{◌≡◌, ◌<◌, IsTrue, All, IfOk, IfSome, false};
 ghost use Rattle.tomo_base.specs.Sets.{has};
 
-use samples::{graph_with, set_of};
+use samples::{FIVE_LINKED, graph_with, set_of};
 use std::alloc::Global;
 use std::test::Fail;
 use tomo_base::{Graph, NoMemory, NodeSet};
@@ -84,20 +84,6 @@ fn fan_comes_to(
     }
 }
 
-// Each two of five nodes are linked; the first six links join each two of the first four.
-const LINKED: [(u32, u32); 10] = [
-    (0, 1),
-    (0, 2),
-    (1, 2),
-    (0, 3),
-    (1, 3),
-    (2, 3),
-    (0, 4),
-    (1, 4),
-    (2, 4),
-    (3, 4),
-];
-
 // The shortest way from 0 to the nodes 5 and 6 goes over 1 and 4, and leaves no second one.
 const DETOUR: [(u32, u32); 8] = [
     (0, 1),
@@ -113,7 +99,7 @@ const DETOUR: [(u32, u32); 8] = [
 #[test]
 fn four_nodes_give_three_paths_and_no_fourth(rt: HostRuntime) -> Result<(), Fail> {
     let alloc = rt.alloc();
-    let g = graph_with(alloc, 4, &LINKED[..6])?;
+    let g = graph_with(alloc, 4, &FIVE_LINKED[..6])?;
     let paths = [[0, 1].as_slice(), &[0, 2], &[0, 3]];
     assert!(rt; comes_to(alloc, &g, &[1, 2, 3], &[], &[0], &paths)?);
     Ok(())
@@ -131,7 +117,7 @@ fn a_path_is_led_another_way(rt: HostRuntime) -> Result<(), Fail> {
 #[test]
 fn banned_nodes_leave_two_paths_or_one(rt: HostRuntime) -> Result<(), Fail> {
     let alloc = rt.alloc();
-    let g = graph_with(alloc, 5, &LINKED)?;
+    let g = graph_with(alloc, 5, &FIVE_LINKED)?;
     let two = [[0, 3].as_slice(), &[0, 4]];
     assert!(rt; comes_to(alloc, &g, &[3, 4], &[1], &[0, 2], &two)?);
     let one = [[0, 3].as_slice()];
@@ -142,7 +128,7 @@ fn banned_nodes_leave_two_paths_or_one(rt: HostRuntime) -> Result<(), Fail> {
 #[test]
 fn a_fan_needs_three_targets(rt: HostRuntime) -> Result<(), Fail> {
     let alloc = rt.alloc();
-    let g = graph_with(alloc, 5, &LINKED)?;
+    let g = graph_with(alloc, 5, &FIVE_LINKED)?;
     assert!(rt; fan_comes_to(alloc, &g, &[2, 3, 4], None)?);
     assert!(rt; fan_comes_to(alloc, &g, &[3, 4], Some(&[0, 1, 2]))?);
     Ok(())

@@ -5,7 +5,7 @@ ghost use Rattle.tomo_base.specs.Identify.{Identifies};
 ghost use Rattle.tomo_base.specs.BadParts.{IsCutOff};
 
 use cross_links::recipe;
-use samples::{graph_with, set_of};
+use samples::{FIVE_LINKED, graph_with, set_of};
 use simple_path::{PathPool, Recipe};
 use std::alloc::Global;
 use std::test::Fail;
@@ -89,12 +89,6 @@ fn comes_to(
     Ok(right)
 }
 
-// The first three links are a star, the first six join each two of four nodes.
-const LINKED: [(u32, u32); 6] = [(0, 1), (0, 2), (0, 3), (1, 2), (1, 3), (2, 3)];
-
-// Two triangles, and a link between them.
-const TRIANGLES: [(u32, u32); 7] = [(0, 1), (0, 2), (1, 2), (2, 3), (3, 4), (3, 5), (4, 5)];
-
 // A ladder of four rungs.
 const LADDER: [(u32, u32); 10] = [
     (0, 1),
@@ -109,10 +103,13 @@ const LADDER: [(u32, u32); 10] = [
     (5, 7),
 ];
 
+// Two triangles, and a link between them.
+const TRIANGLES: [(u32, u32); 7] = [(0, 1), (0, 2), (1, 2), (2, 3), (3, 4), (3, 5), (4, 5)];
+
 #[test]
 fn a_link_between_monitors_is_a_path(rt: HostRuntime) -> Result<(), Fail> {
     let alloc = rt.alloc();
-    let g = graph_with(alloc, 4, &LINKED)?;
+    let g = graph_with(alloc, 4, &FIVE_LINKED[..6])?;
     for link in 0..6u32 {
         assert!(rt; comes_to(alloc, &g, &[0, 1, 2, 3], link, &[2])?);
     }
@@ -122,7 +119,7 @@ fn a_link_between_monitors_is_a_path(rt: HostRuntime) -> Result<(), Fail> {
 #[test]
 fn a_link_of_a_star_has_three_paths(rt: HostRuntime) -> Result<(), Fail> {
     let alloc = rt.alloc();
-    let g = graph_with(alloc, 4, &LINKED[..3])?;
+    let g = graph_with(alloc, 4, &FIVE_LINKED[..3])?;
     for link in 0..3u32 {
         assert!(rt; comes_to(alloc, &g, &[1, 2, 3], link, &[1, 1, -1])?);
     }

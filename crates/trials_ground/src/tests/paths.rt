@@ -1,7 +1,7 @@
 // Pools and recipes grow where memory is ample, and monitor paths are told from other lists.
+use samples::{graph_with, set_of};
 use simple_path::{PathPool, Recipe, Recipes, Term, is_monitor_path};
 use std::test::Fail;
-use tomo_base::{Graph, Link, NodeSet};
 
 #[test]
 fn pools_grow(rt: HostRuntime) -> Result<(), Fail> {
@@ -39,15 +39,8 @@ fn recipes_grow(rt: HostRuntime) -> Result<(), Fail> {
 
 #[test]
 fn monitor_paths_are_told(rt: HostRuntime) -> Result<(), Fail> {
-    let links = [
-        Link { a: 0, b: 1 },
-        Link { a: 0, b: 2 },
-        Link { a: 1, b: 2 },
-    ];
-    let g = Graph::new(rt.alloc(), 3, &links)?;
-    let mut m = NodeSet::new(rt.alloc());
-    m.insert(0)?;
-    m.insert(1)?;
+    let g = graph_with(rt.alloc(), 3, &[(0, 1), (0, 2), (1, 2)])?;
+    let m = set_of(rt.alloc(), &[0, 1])?;
     for (path, told) in [
         ([1, 2, 0].as_slice(), true),
         (&[0, 1], true),

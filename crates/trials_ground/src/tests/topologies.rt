@@ -64,61 +64,43 @@ fn topologies_are_read(rt: HostRuntime) -> Result<(), Fail> {
     Ok(())
 }
 
+// Texts without a header that name no topology, and the first fault of each.
+const FAULTS: [(&[u8], TopoFault); 10] = [
+    (b"", TopoFault::Few(0)),
+    (b"a,b\nb,a\n", TopoFault::Few(2)),
+    (b"a\n", TopoFault::Width(1)),
+    (b"a,b\nb, \t\n", TopoFault::Name(2)),
+    (b",\n", TopoFault::Name(1)),
+    (b"a,\xc3\n", TopoFault::Name(1)),
+    (TOO_LONG, TopoFault::Name(1)),
+    (b"a,b\nc, c\n", TopoFault::Loop(2)),
+    (b"a,b\nc,d\nd,d\n", TopoFault::Loop(3)),
+    (b"a,b\nc,d\nb,e\n", TopoFault::Apart(2)),
+];
+
+// The fault of a text of fewer than a hundred bytes, if it has one.
+fn fault_of(alloc: Global, text: &[u8], header: bool) -> Result<Option<TopoFault>, Fail> {
+    if text.len() >= 100 {
+        return Ok(None);
+    }
+    let rows = read_rows(alloc, text)?;
+    Ok(read_topology(alloc, &rows, header).err())
+}
+
 #[test]
 fn the_first_fault_is_answered(rt: HostRuntime) -> Result<(), Fail> {
-    let alloc = rt.alloc();
-    for (what, text, header, fault) in [
-        ("no rows", b"".as_slice(), false, TopoFault::Few(0)),
-        ("two nodes", b"a,b\nb,a\n", false, TopoFault::Few(2)),
-        ("one field", b"a\n", false, TopoFault::Width(1)),
-        (
-            "one field under a header",
-            b"x\na,b\na\n",
-            true,
-            TopoFault::Width(3),
-        ),
-        ("an empty name", b"a,b\nb, \t\n", false, TopoFault::Name(2)),
-        ("no name twice", b",\n", false, TopoFault::Name(1)),
-        (
-            "a name that is not UTF-8",
-            b"a,\xc3\n",
-            false,
-            TopoFault::Name(1),
-        ),
-        ("a name of 65 bytes", TOO_LONG, false, TopoFault::Name(1)),
-        (
-            "a loop but for blanks",
-            b"a,b\nc, c\n",
-            false,
-            TopoFault::Loop(2),
-        ),
-        (
-            "a loop, and nodes apart",
-            b"a,b\nc,d\nd,d\n",
-            false,
-            TopoFault::Loop(3),
-        ),
-        (
-            "a loop in the header",
-            b"a,a\na,b\nc,c\n",
-            true,
-            TopoFault::Loop(3),
-        ),
-        (
-            "nodes apart",
-            b"a,b\nc,d\nb,e\n",
-            false,
-            TopoFault::Apart(2),
-        ),
-    ] {
-        assert!(rt; text.len() < 100);
-        let rows = read_rows(alloc, text)?;
-        assert_eq!(rt;
-            read_topology(alloc, &rows, header).err(),
-            Some(fault),
-            "{what}"
-        );
+    for (text, fault) in FAULTS {
+        assert_eq!(rt; fault_of(rt.alloc(), text, false)?, Some(fault));
     }
+    Ok(())
+}
+
+#[test]
+fn a_header_is_counted_and_not_examined(rt: HostRuntime) -> Result<(), Fail> {
+    let width = fault_of(rt.alloc(), b"x\na,b\na\n", true)?;
+    assert!(rt; width == Some(TopoFault::Width(3)));
+    let ends = fault_of(rt.alloc(), b"a,a\na,b\nc,c\n", true)?;
+    assert!(rt; ends == Some(TopoFault::Loop(3)));
     Ok(())
 }
 

@@ -61,15 +61,16 @@ fn report_of_text(alloc: Global, text: &[u8]) -> Result<Option<Report>, Fail>
     }
 }
 
+const GOOD: Report = Report::Good {
+    monitors: 3,
+    bound: 3,
+};
+
 #[test]
 fn one_changed_row_is_a_fault(rt: HostRuntime) -> Result<(), Fail> {
     let alloc = rt.alloc();
-    let good = Report::Good {
-        monitors: 3,
-        bound: 3,
-    };
     for (number, row, report) in [
-        (0, b"".as_slice(), good),
+        (0, b"".as_slice(), GOOD),
         (8, b"monitor,0", Report::Bad(Fault::Monitor(1))),
         (9, b"monitor,3", Report::Bad(Fault::Monitor(2))),
         (11, b"pocket,1,2,1", Report::Bad(Fault::Pocket(1))),
@@ -116,12 +117,8 @@ const POCKETS: &[u8] = b"pocket,0,1,0\npocket,1,1,2\n";
 #[test]
 fn forced_and_barred_nodes_are_checked(rt: HostRuntime) -> Result<(), Fail> {
     let alloc = rt.alloc();
-    let good = Report::Good {
-        monitors: 3,
-        bound: 3,
-    };
     for (choice, monitors, report) in [
-        (b"must,1\n".as_slice(), ALL, good),
+        (b"must,1\n".as_slice(), ALL, GOOD),
         (b"must,0\nmust,1\n", ALL, Report::Bad(Fault::Pocket(0))),
         (b"must,1\nmust,1\n", ALL, Report::Bad(Fault::Must(1))),
         (b"must,3\n", ALL, Report::Bad(Fault::Must(0))),

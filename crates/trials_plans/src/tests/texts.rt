@@ -60,68 +60,98 @@ fn plans_are_read_and_printed(rt: HostRuntime) -> Result<(), Fail> {
     Ok(())
 }
 
+// The first fault of a plan of two links in format 1, the number of a row, and what stands in its place.
+const FAULTS: [(Option<PlanFault>, usize, &[&[u8]]); 24] = [
+    (None, 1, &[b"plan,2"]),
+    (
+        Some(PlanFault::Record(1)),
+        1,
+        &[b"plan,3", b"plan,02", b"must,0"],
+    ),
+    (Some(PlanFault::Order(1)), 1, &[b"node,0,a"]),
+    (None, 2, &[NAME_OF_64_BYTES]),
+    (
+        Some(PlanFault::Record(2)),
+        2,
+        &[
+            b"nodes,0,a",
+            b"node,0,a,b",
+            b"node,0,",
+            b"node,0,\xff",
+            NAME_OF_65_BYTES,
+        ],
+    ),
+    (Some(PlanFault::Order(2)), 2, &[b"plan,1", b"plan,2"]),
+    (
+        Some(PlanFault::Number(5)),
+        5,
+        &[b"link,00,0,1", b"link,0,+0,1", b"link,0,0,"],
+    ),
+    (Some(PlanFault::Order(5)), 5, &[b"link,1,0,1"]),
+    (None, 7, &[b"monitor,4294967295"]),
+    (
+        Some(PlanFault::Record(7)),
+        7,
+        &[b"must,0", b"not,0", b"plan,1,0"],
+    ),
+    (Some(PlanFault::Order(7)), 7, &[b"node,x,d"]),
+    (
+        Some(PlanFault::Number(7)),
+        7,
+        &[b"monitor,4294967296", b"monitor,18446744073709551616"],
+    ),
+    (
+        Some(PlanFault::Number(10)),
+        10,
+        &[b"pocket,0, 1,0", b"pocket,0,1,"],
+    ),
+    (None, 13, &[b"path,0,7"]),
+    (Some(PlanFault::Record(13)), 13, &[b"path,0"]),
+    (
+        Some(PlanFault::Number(13)),
+        13,
+        &[b"path,0,0  1", b"path,0,0 1 "],
+    ),
+    (
+        None,
+        15,
+        &[b"recipe,0,4:0 -4:1 1:4294967295", SIXTEEN_TERMS],
+    ),
+    (
+        Some(PlanFault::Number(15)),
+        15,
+        &[
+            b"recipe,0,5:0",
+            b"recipe,0,-5:0",
+            b"recipe,0,0:0",
+            b"recipe,0,+2:0",
+            b"recipe,0,2",
+            b"recipe,0,2:",
+            b"recipe,0,2:0:0",
+            SEVENTEEN_TERMS,
+            b"recipe,1,5:0",
+        ],
+    ),
+    (Some(PlanFault::Order(15)), 15, &[b"recipe,1,2:0"]),
+    (Some(PlanFault::After(16)), 15, &[b"end"]),
+    (Some(PlanFault::After(17)), 16, &[b"end"]),
+    (Some(PlanFault::Record(17)), 17, &[b"end,1"]),
+    (Some(PlanFault::Missing(17)), 17, &[b"recipe,2,2:1"]),
+    (Some(PlanFault::Missing(16)), 17, &[b""]),
+];
+
 #[test]
 fn the_first_fault_is_answered(rt: HostRuntime) -> Result<(), Fail> {
     let alloc = rt.alloc();
     let older = with_row(alloc, TWO_LINKS_PLAN, 1, b"plan,1")?;
-    for (number, row, fault) in [
-        (2, b"nodes,0,a".as_slice(), Some(PlanFault::Record(2))),
-        (2, b"node,0,a,b", Some(PlanFault::Record(2))),
-        (13, b"path,0", Some(PlanFault::Record(13))),
-        (17, b"end,1", Some(PlanFault::Record(17))),
-        (1, b"plan,2", None),
-        (1, b"plan,3", Some(PlanFault::Record(1))),
-        (1, b"plan,02", Some(PlanFault::Record(1))),
-        (7, b"must,0", Some(PlanFault::Record(7))),
-        (7, b"not,0", Some(PlanFault::Record(7))),
-        (1, b"must,0", Some(PlanFault::Record(1))),
-        (2, b"node,0,", Some(PlanFault::Record(2))),
-        (2, b"node,0,\xff", Some(PlanFault::Record(2))),
-        (2, NAME_OF_64_BYTES, None),
-        (2, NAME_OF_65_BYTES, Some(PlanFault::Record(2))),
-        (7, b"plan,1,0", Some(PlanFault::Record(7))),
-        (1, b"node,0,a", Some(PlanFault::Order(1))),
-        (2, b"plan,1", Some(PlanFault::Order(2))),
-        (2, b"plan,2", Some(PlanFault::Order(2))),
-        (7, b"node,x,d", Some(PlanFault::Order(7))),
-        (5, b"link,00,0,1", Some(PlanFault::Number(5))),
-        (5, b"link,0,+0,1", Some(PlanFault::Number(5))),
-        (5, b"link,0,0,", Some(PlanFault::Number(5))),
-        (7, b"monitor,4294967295", None),
-        (7, b"monitor,4294967296", Some(PlanFault::Number(7))),
-        (
-            7,
-            b"monitor,18446744073709551616",
-            Some(PlanFault::Number(7)),
-        ),
-        (10, b"pocket,0, 1,0", Some(PlanFault::Number(10))),
-        (10, b"pocket,0,1,", Some(PlanFault::Number(10))),
-        (13, b"path,0,0  1", Some(PlanFault::Number(13))),
-        (13, b"path,0,0 1 ", Some(PlanFault::Number(13))),
-        (13, b"path,0,7", None),
-        (15, b"recipe,0,4:0 -4:1 1:4294967295", None),
-        (15, b"recipe,0,5:0", Some(PlanFault::Number(15))),
-        (15, b"recipe,0,-5:0", Some(PlanFault::Number(15))),
-        (15, b"recipe,0,0:0", Some(PlanFault::Number(15))),
-        (15, b"recipe,0,+2:0", Some(PlanFault::Number(15))),
-        (15, b"recipe,0,2", Some(PlanFault::Number(15))),
-        (15, b"recipe,0,2:", Some(PlanFault::Number(15))),
-        (15, b"recipe,0,2:0:0", Some(PlanFault::Number(15))),
-        (15, SIXTEEN_TERMS, None),
-        (15, SEVENTEEN_TERMS, Some(PlanFault::Number(15))),
-        (15, b"recipe,1,5:0", Some(PlanFault::Number(15))),
-        (15, b"recipe,1,2:0", Some(PlanFault::Order(15))),
-        (5, b"link,1,0,1", Some(PlanFault::Order(5))),
-        (16, b"end", Some(PlanFault::After(17))),
-        (15, b"end", Some(PlanFault::After(16))),
-        (17, b"recipe,2,2:1", Some(PlanFault::Missing(17))),
-        (17, b"", Some(PlanFault::Missing(16))),
-    ] {
-        let text = with_row(alloc, &older, number, row)?;
-        assert!(rt; text.len() < 10_000);
-        let rows = rows_of(alloc, &text)?;
-        let read = read_plan(alloc, &rows);
-        assert_eq!(rt; read.err(), fault, "row {number}");
+    for (fault, number, changes) in FAULTS {
+        for &row in changes {
+            let text = with_row(alloc, &older, number, row)?;
+            assert!(rt; text.len() < 10_000);
+            let rows = rows_of(alloc, &text)?;
+            let read = read_plan(alloc, &rows);
+            assert_eq!(rt; read.err(), fault, "row {number}");
+        }
     }
     let rows = rows_of(alloc, b"")?;
     assert!(rt; read_plan(alloc, &rows).err() == Some(PlanFault::Missing(0)));

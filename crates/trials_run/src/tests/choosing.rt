@@ -65,43 +65,29 @@ fn another_forced_or_barred_node_is_a_fault(rt: HostRuntime) -> Result<(), Fail>
     Ok(())
 }
 
-// Choices over the complete graph of four nodes that have no plan.
-const UNPLANNED: [Told<'_>; 6] = [
-    (
-        [COMPLETE, b"not,a\nnot,b\n"],
-        Status::Negative,
-        b"impossible,a,b\n",
-    ),
-    (
-        [COMPLETE, b"must,a\nnot,a\n"],
-        Status::BadInput,
-        b"refused,f,clash,2\n",
-    ),
-    (
-        [COMPLETE, b"may,a\n"],
-        Status::BadInput,
-        b"refused,f,word,1\n",
-    ),
-    (
-        [COMPLETE, b"must\n"],
-        Status::BadInput,
-        b"refused,f,width,1\n",
-    ),
-    (
-        [COMPLETE, b"must,q\n"],
-        Status::BadInput,
-        b"refused,f,unknown,1\n",
-    ),
-    (
-        [COMPLETE, b" not\t, a ,x\nnot,b\nmust,a\n"],
-        Status::BadInput,
-        b"refused,f,clash,3\n",
-    ),
+// The row that answers choices over the complete graph of four nodes that are refused, and such choices.
+const REFUSED: [(&[u8], &[u8]); 5] = [
+    (b"refused,f,clash,2\n", b"must,a\nnot,a\n"),
+    (b"refused,f,clash,3\n", b" not\t, a ,x\nnot,b\nmust,a\n"),
+    (b"refused,f,word,1\n", b"may,a\n"),
+    (b"refused,f,width,1\n", b"must\n"),
+    (b"refused,f,unknown,1\n", b"must,q\n"),
 ];
 
 #[test]
-fn other_choices_are_impossible_or_refused(rt: HostRuntime) -> Result<(), Fail> {
-    assert!(rt; all_end_so(rt.alloc(), "plan", &UNPLANNED)?);
+fn other_choices_are_refused(rt: HostRuntime) -> Result<(), Fail> {
+    for (row, choice) in REFUSED {
+        let told: Told<'_> = ([COMPLETE, choice], Status::BadInput, row);
+        assert!(rt; all_end_so(rt.alloc(), "plan", &[told])?);
+    }
+    Ok(())
+}
+
+#[test]
+fn two_barred_nodes_of_four_are_too_many(rt: HostRuntime) -> Result<(), Fail> {
+    let choice = b"not,a\nnot,b\n";
+    let told: Told<'_> = ([COMPLETE, choice], Status::Negative, b"impossible,a,b\n");
+    assert!(rt; all_end_so(rt.alloc(), "plan", &[told])?);
     Ok(())
 }
 
@@ -135,31 +121,21 @@ fn choice_with(alloc: Global, number: u32) -> Result<Vec<u8>, Fail> {
     Ok(text)
 }
 
-// The names of the nodes whose digits are 1 in a number to the base of two.
-fn monitors_with(alloc: Global, number: u32) -> Result<Vec<u8>, Fail> {
-    let mut text = Vec::new(alloc);
-    let mut left = number;
-    for name in NAMES {
-        if left % 2 == 1 {
-            text.extend_from_slice(name)?;
-        }
-        left /= 2;
-    }
-    Ok(text)
-}
-
 // The rows of these monitors in a plan.
-fn rows_with(alloc: Global, number: u32) -> Result<Vec<u8>, Fail> {
+const ROWS: [&[u8]; 4] = [
+    b"monitor,0\n",
+    b"monitor,1\n",
+    b"monitor,2\n",
+    b"monitor,3\n",
+];
+
+// Those of four lines whose digits are 1 in a number to the base of two.
+fn lines_with(alloc: Global, lines: [&[u8]; 4], number: u32) -> Result<Vec<u8>, Fail> {
     let mut text = Vec::new(alloc);
     let mut left = number;
-    for row in [
-        b"monitor,0\n",
-        b"monitor,1\n",
-        b"monitor,2\n",
-        b"monitor,3\n",
-    ] {
+    for line in lines {
         if left % 2 == 1 {
-            text.extend_from_slice(row)?;
+            text.extend_from_slice(line)?;
         }
         left /= 2;
     }
@@ -183,7 +159,7 @@ fn is_allowed(monitors: u32, choice: u32) -> bool {
 fn lowest_by_trying(alloc: Global, topology: &[u8], choice: u32) -> Result<Option<u32>, Fail> {
     for monitors in 0..16 {
         if is_allowed(monitors, choice) {
-            let names = monitors_with(alloc, monitors)?;
+            let names = lines_with(alloc, NAMES, monitors)?;
             let (status, _) = run_over_two(alloc, "judge", topology, &names)?;
             if status == Status::Done {
                 return Ok(Some(monitors));
@@ -200,7 +176,7 @@ fn is_lowest(alloc: Global, topology: &[u8], number: u32) -> Result<bool, Fail> 
     match lowest_by_trying(alloc, topology, number)? {
         None => Ok(status == Status::Negative && sink.bytes().starts_with(b"impossible,")),
         Some(monitors) => {
-            let rows = rows_with(alloc, monitors)?;
+            let rows = lines_with(alloc, ROWS, monitors)?;
             let same = lines_of(sink.bytes(), b"monitor,") == lines_of(&rows, b"monitor,");
             Ok(status == Status::Done && same && has_piece(sink.bytes(), &rows))
         }

@@ -1,5 +1,5 @@
 // Plans, and paths for given monitors.
-use crate::tests::stage::{Told, all_end_so, ends_so, lines_of, plan_begins, run, run_over_plan};
+use crate::tests::stage::{Told, all_end_so, is_done, lines_of, plan_begins, run, run_over_plan};
 use samples::{
     CAMPUS, COMPLETE, COMPLETE_PLAN, COMPLETE_WITH_A_LEAF, RING, RING_PLAN, SHARING_A_NODE,
     SHARING_A_PAIR, STAR, STAR_PATHS, STAR_PLAN, TRIANGLES, TWO_LINKS, TWO_LINKS_PLAN,
@@ -17,8 +17,7 @@ const WHOLE: [(&[u8], &[u8]); 4] = [
 #[test]
 fn small_networks_are_planned(rt: HostRuntime) -> Result<(), Fail> {
     for (topology, plan) in WHOLE {
-        let files = [("t", topology)];
-        assert!(rt; ends_so(rt.alloc(), &["plan", "t"], &files, Status::Done, plan)?);
+        assert!(rt; is_done(rt.alloc(), &["plan", "t"], topology, plan)?);
     }
     Ok(())
 }
@@ -36,8 +35,7 @@ const SPELLED: [(&[&str], &[u8]); 3] = [
 #[test]
 fn links_may_be_spelled_in_several_ways(rt: HostRuntime) -> Result<(), Fail> {
     for (words, topology) in SPELLED {
-        let files = [("t", topology)];
-        assert!(rt; ends_so(rt.alloc(), words, &files, Status::Done, TWO_LINKS_PLAN)?);
+        assert!(rt; is_done(rt.alloc(), words, topology, TWO_LINKS_PLAN)?);
     }
     Ok(())
 }

@@ -1,5 +1,5 @@
 // Words without a shape, files that are refused, and devices that fail.
-use crate::tests::stage::{ends_so, lines_of, run, shelf_of, words_of};
+use crate::tests::stage::{Told, all_end_so, ends_so, lines_of, run, shelf_of, words_of};
 use outside::MemSink;
 use samples::{TWO_LINKS, TWO_LINKS_PLAN};
 use std::alloc::Global;
@@ -129,16 +129,11 @@ fn a_write_that_fails_leaves_what_was_written(rt: HostRuntime) -> Result<(), Fai
 #[test]
 fn a_plan_cut_short_is_refused(rt: HostRuntime) -> Result<(), Fail> {
     let short = TWO_LINKS_PLAN.len().saturating_sub(4);
-    let files = [("t", TWO_LINKS), ("p", &TWO_LINKS_PLAN[..short])];
-    let row = b"refused,p,missing,16\n";
-    assert!(rt;
-        ends_so(
-            rt.alloc(),
-            &["check", "t", "p"],
-            &files,
-            Status::BadInput,
-            row
-        )?
-    );
+    let table: [Told<'_>; 1] = [(
+        [TWO_LINKS, &TWO_LINKS_PLAN[..short]],
+        Status::BadInput,
+        b"refused,f,missing,16\n",
+    )];
+    assert!(rt; all_end_so(rt.alloc(), "check", &table)?);
     Ok(())
 }

@@ -1,5 +1,5 @@
 // Rounds are solved, and drills are made.
-use crate::tests::stage::{ends_so, lines_of, run, run_over_plan};
+use crate::tests::stage::{Told, all_end_so, ends_so, lines_of, run, run_over_plan};
 use samples::{
     COMPLETE, COMPLETE_PLAN, STAR, STAR_PLAN, TRIANGLES, TRIANGLES_PLAN, TWO_LINKS, TWO_LINKS_PLAN,
     with_row,
@@ -66,21 +66,28 @@ fn rounds_over_a_star_are_solved(rt: HostRuntime) -> Result<(), Fail> {
     Ok(())
 }
 
-// Rounds that are refused over the plan of a star, and the row that says why.
-const REFUSED_ROUNDS: [(&[u8], &[u8]); 7] = [
-    (b"5,6\n", b"refused,r,width,1\n"),
-    (b"5,6,7\n5,6\n", b"refused,r,width,2\n"),
-    (b"5,x,7\n", b"refused,r,number,1 2\n"),
-    (b"5,-1,7\n", b"refused,r,number,1 2\n"),
-    (b"5,1000000000000001,7\n", b"refused,r,number,1 2\n"),
-    (b"5,99999999999999999999,7\n", b"refused,r,number,1 2\n"),
-    (b"5,6,000000000000000000007\n", b"refused,r,number,1 3\n"),
+// The row that refuses rounds over the plan of a star, and such rounds.
+const REFUSED_ROUNDS: [(&[u8], &[&[u8]]); 4] = [
+    (b"refused,r,width,1\n", &[b"5,6\n"]),
+    (b"refused,r,width,2\n", &[b"5,6,7\n5,6\n"]),
+    (
+        b"refused,r,number,1 2\n",
+        &[
+            b"5,x,7\n",
+            b"5,-1,7\n",
+            b"5,1000000000000001,7\n",
+            b"5,99999999999999999999,7\n",
+        ],
+    ),
+    (b"refused,r,number,1 3\n", &[b"5,6,000000000000000000007\n"]),
 ];
 
 #[test]
 fn other_rounds_are_refused(rt: HostRuntime) -> Result<(), Fail> {
-    for (rounds, row) in REFUSED_ROUNDS {
-        assert!(rt; is_solved(rt.alloc(), [STAR, STAR_PLAN, rounds], Status::BadInput, row)?);
+    for (row, texts) in REFUSED_ROUNDS {
+        for &rounds in texts {
+            assert!(rt; is_solved(rt.alloc(), [STAR, STAR_PLAN, rounds], Status::BadInput, row)?);
+        }
     }
     Ok(())
 }
@@ -131,17 +138,8 @@ fn rounds_over_other_plans_are_solved(rt: HostRuntime) -> Result<(), Fail> {
 fn a_recipe_with_another_sign_is_refused(rt: HostRuntime) -> Result<(), Fail> {
     let turned = b"recipe,3,1:1 1:2 1:5 -1:6".as_slice();
     let plan = with_row(rt.alloc(), TRIANGLES_PLAN, 34, turned)?;
-    let files = [("t", TRIANGLES), ("p", plan.as_slice())];
-    let row = b"bad,recipe,3\n";
-    assert!(rt;
-        ends_so(
-            rt.alloc(),
-            &["check", "t", "p"],
-            &files,
-            Status::Negative,
-            row
-        )?
-    );
+    let told: Told<'_> = ([TRIANGLES, &plan], Status::Negative, b"bad,recipe,3\n");
+    assert!(rt; all_end_so(rt.alloc(), "check", &[told])?);
     Ok(())
 }
 

@@ -53,6 +53,16 @@ pub fn ends_so(
     Ok(ended == status && sink.bytes() == output)
 }
 
+// Whether these words over a topology write just this, and all is done.
+pub fn is_done(
+    alloc: Global,
+    words: &[&str],
+    topology: &[u8],
+    output: &[u8],
+) -> Result<bool, Fail> {
+    ends_so(alloc, words, &[("t", topology)], Status::Done, output)
+}
+
 // A topology and one more file, how a command over them ends, and what it writes.
 pub type Told<'a> = ([&'a [u8]; 2], Status, &'a [u8]);
 

@@ -1,5 +1,5 @@
 // Monitors are judged, single links are told, plans are checked, parts and trees are told.
-use crate::tests::stage::{Told, all_end_so, ends_so, lines_of, run};
+use crate::tests::stage::{Told, all_end_so, ends_so, is_done, lines_of, run};
 use samples::{
     CHORD, HEXAGON, PRISM, SHARING_A_PAIR, STAR, TRIANGLES, TRIANGLES_PLAN, TWO_LINKS,
     TWO_LINKS_PLAN,
@@ -141,8 +141,7 @@ const PARTS: [(&[u8], &[u8]); 5] = [
 #[test]
 fn parts_are_told(rt: HostRuntime) -> Result<(), Fail> {
     for (topology, rows) in PARTS {
-        let files = [("t", topology)];
-        assert!(rt; ends_so(rt.alloc(), &["components", "t"], &files, Status::Done, rows)?);
+        assert!(rt; is_done(rt.alloc(), &["components", "t"], topology, rows)?);
     }
     Ok(())
 }

@@ -10,7 +10,7 @@ use Rattle.blocks.specs.declared.block_list.Part.{Part}
 use Rattle.blocks.specs.declared.block_list.Work.{Work}
 use Rattle.blocks.specs.Sides.{AreSides}
 use Rattle.blocks.specs.Working.{weight_of}
-use Rattle.blocks.proofs.Filtering.{never_marked}
+use Rattle.tomo_base.proofs.Marks.{bare_mark}
 use Rattle.blocks.proofs.Parts.{begun, taken, all_blocks, all_cuts}
 use Rattle.blocks.proofs.Dividing.{divided_at_root}
 use Rattle.blocks.proofs.block_list.cut_up.Goals as goal
@@ -25,7 +25,7 @@ loop-part-init c =
     record {
       working = begun g work part c.nodes-n.ensures.graph c.requires.connected c.requires.two (c.in_ok-all_nodes.ensures ∙ ap (λ k. members k everything) c.nodes-n.ensures.nodes) refl
           (c.in_ok-push.ensures.items ∙ ap (λ xs. xs ++ part ∷ []) c.new-2.ensures.items) c.new-3.ensures.items (ap length bare ∙ (length-replicate c.nodes-n.result _ ∙ c.nodes-n.ensures.nodes))
-          (λ v. ap (λ xs. mark_of xs v) bare ∙ never_marked c.nodes-n.result v);
+          (λ v. ap (λ xs. mark_of xs v) bare ∙ bare_mark c.nodes-n.result v);
       room = rw c.nodes-n.ensures.nodes at c.in_ok-search.ensures;
     }
 

@@ -2,8 +2,8 @@ use Rattle.std.proofs.Common.{◌∙◌, length, false, refl, ap, arith, length-
 use Rattle.std.proofs.lemmas.List.{length-replicate, take_all}
 use Rattle.tomo_base.specs.Search.{mark_of}
 use Rattle.tomo_base.specs.Sets.{has}
-use Rattle.blocks.proofs.Filtering.{marks_more, no_marks}
-use Rattle.blocks.proofs.marks.marks_of.Goals as goal
+use Rattle.tomo_base.proofs.Marks.{marks_more, no_marks}
+use Rattle.tomo_base.proofs.node_marks.marks_of.Goals as goal
 
 pub loop-v-init : goal.loop-v-init
 loop-v-init c =

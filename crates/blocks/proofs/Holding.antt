@@ -22,7 +22,7 @@ use Rattle.gate_search.specs.declared.search.GateSearch.{GateSearch}
 use Rattle.tomo_base.proofs.Rows.{hop_linked}
 use Rattle.gate_search.proofs.Marks.{still_gone}
 use Rattle.gate_search.proofs.Trees.{ranked_at, free_in, ranked_free, is_tree, parent_linked, first_in, ranked_in}
-use Rattle.blocks.specs.Growing.{IsGrown, IsWay}
+use Rattle.blocks.specs.Growing.{IsGrown, HasTwoGates}
 use Rattle.tomo_base.proofs.Reached.{ranked_below, placed_free, way_up}
 
 -- a node with two ways to held nodes may be held: a link to one, and a walk to another that does not meet that one
@@ -106,7 +106,7 @@ module _ (g : Network) (free₀ : List Bool) (s : GateSearch) (graph : IsGraph g
 
   module _ (root : ℕ) (w : ℕ → Bool) where
     -- at the other gate
-    pub way_begins : (y : ℕ) → (way : IsWay g w free₀ s y) → IsGrown g root w (mark_of free₀) → IsOnWay g root w free₀ s way.first free₀ y
+    pub way_begins : (y : ℕ) → (way : HasTwoGates g w free₀ s y) → IsGrown g root w (mark_of free₀) → IsOnWay g root w free₀ s way.first free₀ y
     way_begins y way h =
         let outer = (linked_below g.nodes g.links y way.second graph way.other_gate.linked).1 in
         record {

@@ -36,7 +36,7 @@ pub record AreRooted (t : Trees) (m : List ℕ) (all : List Root) : Type 0 where
   pub roots : AreRoots t t.graph.links all
 
 -- trees with these monitors, a name for each node and tree, and a root
-pub record IsNamed (t : Trees) (m names : List ℕ) (r : Root) : Type 0 where
+pub record IsNamedRoot (t : Trees) (m names : List ℕ) (r : Root) : Type 0 where
   pub monitors : m ≡ t.monitors
   pub few_nodes : t.graph.nodes ≤ graph_node_limit
   pub node : r.node < t.graph.nodes

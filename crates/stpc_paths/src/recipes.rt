@@ -4,7 +4,7 @@ ghost use Rattle.tomo_base.specs.Limits.{graph_node_limit};
 ghost use Rattle.stpc_paths.specs.Roots.{IsOwned};
 ghost use Rattle.stpc_paths.specs.Terms.{sign, node_terms, link_terms};
 ghost use Rattle.indep_trees.specs.Trees.{parent_in, rank_in};
-ghost use Rattle.stpc_paths.specs.Kept.{IsNamed, AreRooted, monitor_in, AreTermsOf, name_in, stops_in};
+ghost use Rattle.stpc_paths.specs.Kept.{IsNamedRoot, AreRooted, monitor_in, AreTermsOf, name_in, stops_in};
 
 use crate::names::cell_of;
 use crate::roots::{Root, next_tree};
@@ -69,7 +69,7 @@ fn inside_terms(
     link: u32,
 ) -> Result<Recipe, NoMemory>
     requires tree { tree < 3 }
-    requires named { IsNamed t.now m.now names.now root }
+    requires named { IsNamedRoot t.now m.now names.now root }
     ensures { IfOk result (λ r. r ≡ link_terms (stops_in t.now) (name_in names.now) link root.node root.other (Some tree)) }
 {
     let mut recipe = Recipe::new(alloc);
@@ -87,7 +87,7 @@ fn outside_terms(
     root: Root,
     link: u32,
 ) -> Result<Recipe, NoMemory>
-    requires named { IsNamed t.now m.now names.now root }
+    requires named { IsNamedRoot t.now m.now names.now root }
     ensures { IfOk result (λ r. r ≡ link_terms (stops_in t.now) (name_in names.now) link root.node root.other None) }
 {
     let mut recipe = Recipe::new(alloc);
@@ -110,7 +110,7 @@ fn recipe_of(
     root: Root,
 ) -> Result<Recipe, NoMemory>
     requires owned { IsOwned (monitor_in t.now) (parent_in t.now) (rank_in t.now) root.node root.other root.tree }
-    requires named { IsNamed t.now m.now names.now root }
+    requires named { IsNamedRoot t.now m.now names.now root }
     ensures { IfOk result (λ r. r ≡ link_terms (stops_in t.now) (name_in names.now) link root.node root.other root.tree) }
 {
     match root.tree {

@@ -65,20 +65,22 @@ fn another_forced_or_barred_node_is_a_fault(rt: HostRuntime) -> Result<(), Fail>
     Ok(())
 }
 
-// The row that answers choices over the complete graph of four nodes that are refused, and such choices.
-const REFUSED: [(&[u8], &[u8]); 5] = [
-    (b"refused,f,clash,2\n", b"must,a\nnot,a\n"),
-    (b"refused,f,clash,3\n", b" not\t, a ,x\nnot,b\nmust,a\n"),
-    (b"refused,f,word,1\n", b"may,a\n"),
-    (b"refused,f,width,1\n", b"must\n"),
-    (b"refused,f,unknown,1\n", b"must,q\n"),
+// The row that refuses choices over the complete graph of four nodes, and such choices.
+const REFUSED: [(&[u8], &[&[u8]]); 5] = [
+    (b"refused,f,clash,2\n", &[b"must,a\nnot,a\n"]),
+    (b"refused,f,clash,3\n", &[b" not\t, a ,x\nnot,b\nmust,a\n"]),
+    (b"refused,f,word,1\n", &[b"may,a\n", b"Must,a\n"]),
+    (b"refused,f,width,1\n", &[b"must\n", b"may\n"]),
+    (b"refused,f,unknown,1\n", &[b"must,q\n", b"not,q\n"]),
 ];
 
 #[test]
 fn other_choices_are_refused(rt: HostRuntime) -> Result<(), Fail> {
-    for (row, choice) in REFUSED {
-        let told: Told<'_> = ([COMPLETE, choice], Status::BadInput, row);
-        assert!(rt; all_end_so(rt.alloc(), "plan", &[told])?);
+    for (row, choices) in REFUSED {
+        for &choice in choices {
+            let told: Told<'_> = ([COMPLETE, choice], Status::BadInput, row);
+            assert!(rt; all_end_so(rt.alloc(), "plan", &[told])?);
+        }
     }
     Ok(())
 }

@@ -10,7 +10,7 @@ use Rattle.tomo_base.proofs.Members.{count-has}
 use Rattle.blocks.specs.declared.block_list.Part.{Part}
 use Rattle.blocks.specs.declared.block_list.Work.{Work}
 use Rattle.blocks.specs.Sides.{AreSides}
-use Rattle.blocks.specs.Working.{Working, IsPart, weight_of}
+use Rattle.blocks.specs.Working.{Working, IsUncut, weight_of}
 use Rattle.tomo_base.proofs.Marks.{bare_mark}
 use Rattle.blocks.proofs.Parts.{begun, taken, all_blocks, all_cuts}
 use Rattle.blocks.proofs.Dividing.{divided_at_root}
@@ -35,7 +35,7 @@ abbrev popped : In-Some → Work
 popped c = record { todo = c.pop.new.self; found = c.loop-part.work.found; cuts = c.loop-part.work.cuts }
 
 -- what is known of it
-taken_at : (c : In-Some) → Working c.args.g.now (has c.in-Some.part.nodes.items ∷ []) (popped c) × IsPart c.args.g.now c.in-Some.part
+taken_at : (c : In-Some) → Working c.args.g.now (has c.in-Some.part.nodes.items ∷ []) (popped c) × IsUncut c.args.g.now c.in-Some.part
     × (weight_of c.args.g.now (has c.in-Some.part.nodes.items ∷ []) (popped c) ≡ weight_of c.args.g.now [] c.loop-part.work)
 taken_at c = taken c.args.g.now c.loop-part.work (popped c) c.in-Some.part c.in-Some.ensures.items refl refl c.loop-part.invariant.working
 

@@ -25,16 +25,13 @@ pub returns-in_default-2-clause-growth : goal.returns-in_default-2-clause-growth
 returns-in_default-2-clause-growth c =
     let g = c.args.g.now in
     let free = c.args.free.now in
-    let w = mark_of c.args.nodes.now in
-    let a = c.in-Some.first.outer in
     let s = c.next_gate.new.self in
-    let graph = c.nodes-n.ensures.graph in
     let search = c.in_ok-second.ensures.search.search in
     let all : length s.found.order.items ≤ s.head = rw c.in_default-2.is at c.in_ok-second.ensures.none in
-    let at : IsAtGate g w (mark_of free) c.start_at_gate.new.self c.in-Some.first = rw c.in-Some.is at c.in_ok-first.ensures.found in
-    let gate : IsGate g w (mark_of free) s.start g.nodes g.nodes a = rw (c.in_ok-second.ensures.start, at.start) at.gate in
-    let end = gate_end g free s.start s.head s.found graph search w s.start g.nodes g.nodes a (first_in g free s.start s.head s.found graph search) gate in
-    few_gates g free s.start s.head s.found graph search w (λ v t. omega (arith, mark_below c.args.nodes.now v t, c.requires.marks)) a a all c.in_ok-second.ensures.passed end end
+    let at : IsAtGate g (mark_of c.args.nodes.now) (mark_of free) c.start_at_gate.new.self c.in-Some.first = rw c.in-Some.is at c.in_ok-first.ensures.found in
+    let gate : IsGate g (mark_of c.args.nodes.now) (mark_of free) s.start g.nodes g.nodes c.in-Some.first.outer = rw (c.in_ok-second.ensures.start, at.start) at.gate in
+    let end = gate_end g free s.start s.head s.found c.nodes-n.ensures.graph search (mark_of c.args.nodes.now) s.start g.nodes g.nodes c.in-Some.first.outer (first_in g free s.start s.head s.found c.nodes-n.ensures.graph search) gate in
+    few_gates g free s.start s.head s.found c.nodes-n.ensures.graph search (mark_of c.args.nodes.now) (λ v t. omega (arith, mark_below c.args.nodes.now v t, c.requires.marks)) c.in-Some.first.outer c.in-Some.first.outer all c.in_ok-second.ensures.passed end end
 
 pub returns-in_default-2-clause-room : goal.returns-in_default-2-clause-room
 returns-in_default-2-clause-room c = let s = c.next_gate.new.self in searched_room c.args.g.now c.args.free.now (s.start ∷ []) s.head s.found c.in_ok-second.ensures.search.search

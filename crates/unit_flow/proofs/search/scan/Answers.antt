@@ -12,7 +12,7 @@ pub look-requires-in-loop-hop-clause-inside : goal.look-requires-in-loop-hop-cla
 look-requires-in-loop-hop-clause-inside c =
     let t = asked c.args.g.now c.args.ask.now in
     let near = hop_near t c.index.result.now.node c.hops-hop-items.result.now c.loop-hop.hop-index (record { node = 0; link = 0 }) c.hops-hop-items.ensures c.loop-hop-test.true in
-    (jb t c.requires.asked.task _ _ near).1
+    (jb t c.requires.over.asked.task _ _ near).1
 
 pub look-requires-in-loop-hop-clause-near : goal.look-requires-in-loop-hop-clause-near
 look-requires-in-loop-hop-clause-near c =

@@ -58,6 +58,7 @@ impl Topology {
     pub fn graph(&self) -> &Graph
         ensures graph { result.now ≡ self.now.graph }
         ensures topology { IsTopology self.now }
+        ensures connected { IsConnected result.now }
     {
         &self.graph
     }

@@ -2,12 +2,6 @@ use Rattle.std.proofs.Common.{◌<◌, All}
 use Rattle.topology.proofs.Extending.{extendable}
 use Rattle.answers.proofs.growing.tell_trees.Goals as goal
 
-pub mmp-requires-clause-connected : goal.mmp-requires-clause-connected
-mmp-requires-clause-connected c = rw c.graph-g.ensures.graph c.graph-g.ensures.topology.connected
-
-pub trees-requires-clause-connected : goal.trees-requires-clause-connected
-trees-requires-clause-connected c = rw c.graph-g.ensures.graph c.graph-g.ensures.topology.connected
-
 pub trees-requires-clause-few_links : goal.trees-requires-clause-few_links
 trees-requires-clause-few_links c =
     let below : All (λ v. v < c.args.topology.now.graph.nodes) c.in_ok-monitors.monitors = rw c.graph-g.ensures.graph at c.in_ok-monitors.ensures.nodes in

@@ -1,12 +1,6 @@
 use Rattle.topology.proofs.Extending.{extendable}
 use Rattle.trials_plans.proofs.tests.independent.grow.Goals as goal
 
-pub mmp-requires-clause-connected : goal.mmp-requires-clause-connected
-mmp-requires-clause-connected c = rw c.graph-g.ensures.graph c.graph-g.ensures.topology.connected
-
-pub trees-requires-clause-connected : goal.trees-requires-clause-connected
-trees-requires-clause-connected c = rw c.graph-g.ensures.graph c.graph-g.ensures.topology.connected
-
 pub trees-requires-clause-few_links : goal.trees-requires-clause-few_links
 trees-requires-clause-few_links c =
     let placed = rw c.graph-g.ensures.graph at c.in_ok-monitors.ensures in

@@ -1,11 +1,6 @@
 -- The rows of the terms of a recipe.
-use Rattle.std.proofs.Common.{◌≡◌, ℕ, ℤ, pos, zero, suc, ◌+◌, ◌<◌, ◌≤◌, ◌++◌, List, [], ◌∷◌, length, map, take, get_or, Result, Ok, Err, IfOk, refl, sym, ap, ◌∙◌, arith}
-use Rattle.std.proofs.lemmas.List.{map_more, length-map, get_or-map}
-use Rattle.std.proofs.lemmas.List.Elements.{All-map}
-use Rattle.std.proofs.lemmas.Map.Keys.{Less-from_sorted}
-use Rattle.tomo_base.specs.Network.{Network}
-use Rattle.tomo_base.specs.Sets.{has}
-use Rattle.tomo_base.specs.Identify.{IsMonitorPath}
+use Rattle.std.proofs.Common.{◌≡◌, ℕ, ◌+◌, ◌<◌, ◌++◌, List, [], ◌∷◌, length, map, take, get_or, Result, Ok, Err, IfOk, refl, sym, ap, ◌∙◌}
+use Rattle.std.proofs.lemmas.List.{map_more}
 use Rattle.simple_path.specs.declared.recipe.Term.{Term}
 use Rattle.simple_path.specs.Terms.{path_terms}
 use Rattle.rows.specs.Rows.{RowList}

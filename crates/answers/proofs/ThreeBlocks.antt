@@ -125,7 +125,7 @@ pub homes_all : (blocks sets : List (List ℕ)) (i : ℕ) (homes : List ℕ) →
 homes_all blocks sets i homes all old =
     record { count = old.count ∙ all; block = λ k l. old.block k (omega (arith, l, all)); nodes = λ k l. old.nodes k (omega (arith, l, all)) }
 
--- the sets of one block more are at most a thousand more
+-- the sets of one block more are few more
 pub added_few : (old new : List (Vec ℕ Global)) (sets : List (List ℕ)) (n i : ℕ) → lists_of new ≡ lists_of old ++ sets → length sets ≤ n → n ≤ node_limit → length old ≤ node_limit * i → length new ≤ node_limit * (i + 1)
 added_few old new sets n i same few limit so_far =
     omega (arith, few, limit, so_far, ap (λ (xs : List (List ℕ)). length xs) same, length-append (lists_of old) sets, length-map old (λ (v : Vec ℕ Global). v.items), length-map new (λ (v : Vec ℕ Global). v.items))

@@ -6,6 +6,7 @@ use Rattle.answers.specs.Judging.{Judges}
 use Rattle.answers.specs.Planning.{Plans, PlansFor, PlansWith}
 use Rattle.answers.specs.Linking.{TellsLink}
 use Rattle.answers.specs.Reporting.{Reports}
+use Rattle.answers.specs.Migrating.{Migrates}
 use Rattle.answers.specs.Rounds.{Solves}
 use Rattle.answers.specs.Components.{TellsParts}
 use Rattle.answers.specs.Growing.{TellsTrees}
@@ -16,7 +17,7 @@ use Rattle.answers.specs.declared.tasks.TopologyTask.{TopologyTask}
 use Rattle.answers.specs.declared.tasks.TopologyTask.TheVariants.{Plan, Components, Trees}
 use Rattle.answers.specs.declared.tasks.MonitorTask.{MonitorTask}
 use Rattle.answers.specs.declared.tasks.MonitorTask.TheVariants.{Judge, Paths, Link}
-use Rattle.answers.specs.declared.inputs.FileInputs.TheVariants.{OnTopology, OnMonitors, OnChoice, Check, Solve}
+use Rattle.answers.specs.declared.inputs.FileInputs.TheVariants.{OnTopology, OnMonitors, OnChoice, Check, Migrate, Solve}
 use Rattle.answers.specs.declared.inputs.Inputs.{Inputs}
 use Rattle.answers.specs.declared.inputs.Inputs.TheVariants.{OnFiles, Drill}
 
@@ -38,6 +39,7 @@ Answers (OnFiles (OnTopology task t)) first second status rows = TopologyAnswers
 Answers (OnFiles (OnMonitors task p)) first second status rows = MonitorAnswers task p first second status rows
 Answers (OnFiles (OnChoice c)) first second status rows = PlansWith c.topology c.choice status rows
 Answers (OnFiles (Check c)) first second status rows = Reports c.topology c.plan status rows
+Answers (OnFiles (Migrate c)) first second status rows = Migrates c.plan status rows
 Answers (OnFiles (Solve m)) first second status rows = Solves m.checked.topology m.checked.plan m.rounds status rows
 Answers (Drill numbers) first second status rows = Drills numbers status rows
 

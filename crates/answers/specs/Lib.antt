@@ -6,6 +6,7 @@ pub mod Judging
 pub mod Planning
 pub mod Linking
 pub mod Reporting
+pub mod Migrating
 pub mod Rounds
 pub mod Drilling
 pub mod Components

@@ -10,6 +10,7 @@ use crate::growing::tell_trees;
 use crate::inputs::{FileInputs, Inputs};
 use crate::judging::judge_monitors;
 use crate::linking::tell_link;
+use crate::migrating::migrate_plan;
 use crate::placed::Placed;
 use crate::planning::{plan, plan_chosen, plan_paths};
 use crate::reporting::check_plan;
@@ -74,6 +75,7 @@ pub fn answer_to(
         }
         Inputs::OnFiles(FileInputs::OnChoice(chosen)) => plan_chosen(alloc, &chosen),
         Inputs::OnFiles(FileInputs::Check(planned)) => check_plan(alloc, &planned),
+        Inputs::OnFiles(FileInputs::Migrate(checked)) => migrate_plan(alloc, &checked),
         Inputs::OnFiles(FileInputs::Solve(measured)) => solve_rounds(alloc, &measured),
         Inputs::Drill(numbers) => tell_drill(alloc, numbers),
     }

@@ -1,5 +1,5 @@
 // What a command has read, with what is to be done with it.
-use crate::checked::{Measured, Planned};
+use crate::checked::{Checked, Measured, Planned};
 use crate::chosen::Chosen;
 use crate::drilling::DrillNumbers;
 use crate::placed::Placed;
@@ -17,6 +17,8 @@ pub enum FileInputs {
     OnChoice(Chosen),
     /// A plan that is to be checked.
     Check(Planned),
+    /// A good plan that is to be printed in the newest format.
+    Migrate(Checked),
     /// Rounds that are to be solved.
     Solve(Measured),
 }

@@ -12,6 +12,7 @@ mod growing;
 mod inputs;
 mod judging;
 mod linking;
+mod migrating;
 mod naming;
 mod parts;
 mod placed;

@@ -40,7 +40,7 @@ pub fn all_three_blocks(alloc: Global, g: &Graph, blocks: &NodeSets) -> Result<N
     requires few { length blocks.now ≤ 2 * g.now.nodes }
     requires limit { g.now.nodes ≤ node_limit }
     ensures sets { IfOk result (AreAllSets g.now.nodes (IsThreeBlock g.now)) }
-    ensures few { IfOk result (λ sets. length sets ≤ 2000000) }
+    ensures few { IfOk result (λ sets. length sets ≤ 2 * node_limit * node_limit) }
 {
     let _nodes = g.nodes();
     let mut lists = Vec::new(alloc);

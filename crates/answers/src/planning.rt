@@ -1,5 +1,5 @@
 // Plans are made and printed.
-ghost use Rattle.std.specs.Prelude.{◌≡◌, ◌<◌, ◌≤◌, ◌*◌, ◌^◌, IfOk, length};
+ghost use Rattle.std.specs.Prelude.{◌≡◌, ◌<◌, ◌≤◌, ◌^◌, IfOk, length};
 ghost use Rattle.plan_form.specs.Parts.{IsWellFormed};
 ghost use Rattle.plan_form.specs.Good.{IsGoodPlan};
 ghost use Rattle.plan_form.specs.PlanRows.{row_count, plan_rows as rows_of_plan};
@@ -25,7 +25,7 @@ use topology::Topology;
 fn tell_plan(alloc: Global, topology: &Topology, plan: &Plan) -> Result<Answer, NoMemory>
     requires formed { IsWellFormed plan.now }
     requires good { IsGoodPlan topology.now.names topology.now.graph plan.now }
-    requires few_paths { length plan.now.paths ≤ 4 * length plan.now.links }
+    requires few_paths { length plan.now.paths ≤ length plan.now.links }
     requires few_rows { row_count plan.now < 2 ^ 32 }
     ensures status { IfOk result (λ a. a.status ≡ Status.Done) }
     ensures rows { IfOk result (λ a. a.rows.closed ≡ rows_of_plan plan.now) }

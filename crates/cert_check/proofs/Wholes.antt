@@ -140,7 +140,7 @@ bound_within t p topo formed good =
     omega (arith, bound, count-has t.graph.nodes p.monitors good.monitors.ascending good.monitors.nodes)
 
 -- a good plan has no more monitors than a topology has nodes
-pub monitors_few : (t : Topo) (p : PlanParts) → IsTopology t → IsGoodPlan t.names t.graph p → length p.monitors ≤ 1000
+pub monitors_few : (t : Topo) (p : PlanParts) → IsTopology t → IsGoodPlan t.names t.graph p → length p.monitors ≤ node_limit
 monitors_few t p topo good = omega (arith, count-has t.graph.nodes p.monitors good.monitors.ascending good.monitors.nodes, count-le t.graph.nodes (has p.monitors), topo.few_nodes)
 
 -- ---- with what was read in the place of the parts

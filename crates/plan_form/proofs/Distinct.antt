@@ -5,7 +5,7 @@ use Rattle.plan_form.specs.declared.kinds.Kind.{Kind}
 use Rattle.plan_form.specs.declared.kinds.Kind.TheVariants as kinds
 use Rattle.plan_form.specs.Laws.{OneReading}
 use Rattle.plan_form.specs.Parts.{PlanParts, IsWellFormed}
-use Rattle.plan_form.specs.PlanRows.{Item, IsItem, IsToldIn, items, row_of, numbered, rows_of_kind, rows_in}
+use Rattle.plan_form.specs.PlanRows.{Item, IsItem, IsToldIn, items, row_of, numbered, rows_in}
 use Rattle.plan_form.specs.Reading.{format_of}
 use Rattle.plan_form.proofs.Joined.{heads, tails}
 use Rattle.plan_form.proofs.Printed.{rows_picked, format_told}

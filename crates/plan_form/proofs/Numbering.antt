@@ -1,5 +1,5 @@
 -- Rows with their numbers, one row more at a time.
-use Rattle.std.proofs.Common.{◌≡◌, ◌∙◌, ℕ, suc, ◌+◌, ◌<◌, ◌≤◌, List, [], ◌∷◌, ◌++◌, map, length, take, get_or, refl, sym, ap, arith, append_assoc, length-append}
+use Rattle.std.proofs.Common.{◌≡◌, ◌∙◌, ℕ, suc, ◌+◌, ◌<◌, ◌≤◌, List, [], ◌∷◌, ◌++◌, length, take, get_or, refl, sym, ap, arith, append_assoc, length-append}
 use Rattle.std.proofs.lemmas.List.{take_more, length-take-le, take_all, append-nil}
 use Rattle.rows.specs.Rows.{Row, RowList}
 use Rattle.plan_form.specs.PlanRows.{numbered, AddsRows, AreRowsOf, rows_in, row_count}

@@ -1,5 +1,5 @@
 -- The rows of a plan have no fault.
-use Rattle.std.proofs.Common.{inl, inr, ◌≡◌, ◌^◌, sym, ℕ, ◌+◌, ◌<◌, ◌≤◌, true, List, [], ◌∷◌, length, refl, ap, subst, ◌∙◌, arith, All}
+use Rattle.std.proofs.Common.{inl, inr, ◌≡◌, ◌^◌, sym, ℕ, ◌+◌, ◌≤◌, true, List, [], ◌∷◌, length, refl, ap, subst, ◌∙◌, arith, All}
 use Rattle.std.specs.Fmt.{digits}
 use Rattle.std.proofs.lemmas.List.Elements.{All-head, All-tail}
 use Rattle.rows.specs.Rows.{Row}

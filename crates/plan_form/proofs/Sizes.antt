@@ -12,8 +12,7 @@ use Rattle.std.proofs.lemmas.List.Folds.{list_all-append}
 use Rattle.std.proofs.lemmas.List.Sums.{sum_by-append, sum_by-cons}
 use Rattle.std.proofs.lemmas.Str.Parse.{digit_at}
 use Rattle.tomo_base.specs.Limits.{link_limit, node_limit}
-use Rattle.tomo_base.specs.declared.graph.Link.{Link}
-use Rattle.rows.specs.Rows.{Row, is_plain, field_size, row_size}
+use Rattle.rows.specs.Rows.{is_plain, field_size, row_size}
 use Rattle.rows.specs.Laws.{TextFits}
 use Rattle.simple_path.specs.declared.recipe.Term.{Term}
 use Rattle.plan_form.specs.declared.kinds.Kind.{Kind}
@@ -21,7 +20,7 @@ use Rattle.plan_form.specs.declared.kinds.Kind.TheVariants as kinds
 use Rattle.plan_form.specs.Kinds.{newest_format, in_turn}
 use Rattle.plan_form.specs.Laws.{PrintedIsShort}
 use Rattle.plan_form.specs.Limits.{AreFewNodes, IsLowLink, IsLowPocket, AreFewTerms, IsWithinLimits, path_limit}
-use Rattle.plan_form.specs.Parts.{PlanPocket, PlanParts, IsCoefficient}
+use Rattle.plan_form.specs.Parts.{PlanParts, IsCoefficient}
 use Rattle.plan_form.specs.PlanRows.{Item, items, row_of, numbered, rows_of_kind, plan_rows}
 use Rattle.plan_form.specs.Spelling.{space, colon, numbers_text, term_text, terms_text}
 
@@ -57,8 +56,8 @@ decimal_fits k n some few small = (
 )
 
 -- the number of a node
-node_fits : (n : ℕ) → n < node_limit → Fits 3 (decimal n)
-node_fits n low = decimal_fits 3 n (omega arith) (omega (arith, low)) (omega (arith, low))
+node_fits : (n : ℕ) → n < node_limit → Fits 4 (decimal n)
+node_fits n low = decimal_fits 4 n (omega arith) (omega (arith, low)) (omega (arith, low))
 
 -- a number of a row
 number_fits : (n : ℕ) → n < path_limit → Fits 5 (decimal n)
@@ -85,9 +84,9 @@ joined_fits {A} f k (x ∷ y ∷ xs) each =
     (all.0, omega (arith, all.1))
 
 -- a list of nodes
-nodes_fit : (nodes : List ℕ) → AreFewNodes nodes → Fits (4 * node_limit) (numbers_text nodes)
+nodes_fit : (nodes : List ℕ) → AreFewNodes nodes → Fits (5 * node_limit) (numbers_text nodes)
 nodes_fit nodes few =
-    let joined = joined_fits decimal 3 nodes (λ i d l. node_fits (get_or nodes i d) (few.1 i d l)) in
+    let joined = joined_fits decimal 4 nodes (λ i d l. node_fits (get_or nodes i d) (few.1 i d l)) in
     (joined.0, omega (arith, joined.1, few.0))
 
 -- a list of terms
@@ -101,9 +100,9 @@ abbrev IsLowItem : (k : Kind) → Item k → Type 0
 IsLowItem kinds.Plan format = format < 10
 IsLowItem kinds.Node name = length name ≤ 64
 IsLowItem kinds.Link l = IsLowLink l
-IsLowItem kinds.Must v = v < 1000
-IsLowItem kinds.Not v = v < 1000
-IsLowItem kinds.Monitor v = v < 1000
+IsLowItem kinds.Must v = v < node_limit
+IsLowItem kinds.Not v = v < node_limit
+IsLowItem kinds.Monitor v = v < node_limit
 IsLowItem kinds.Pocket p = IsLowPocket p
 IsLowItem kinds.Path nodes = AreFewNodes nodes
 IsLowItem kinds.Recipe terms = AreFewTerms terms
@@ -112,27 +111,27 @@ IsLowItem kinds.End t = Unit {0}
 -- how many rows of the kind there are at most, and how many bytes each of them has
 abbrev most : Kind → ℕ × ℕ
 most kinds.Plan = (1, 14)
-most kinds.Node = (1000, 145)
-most kinds.Link = (4000, 22)
-most kinds.Must = (1000, 12)
-most kinds.Not = (1000, 11)
-most kinds.Monitor = (1000, 15)
-most kinds.Pocket = (1000, 4021)
-most kinds.Path = (16000, 4015)
-most kinds.Recipe = (4000, 161)
+most kinds.Node = (node_limit, 145)
+most kinds.Link = (link_limit, 24)
+most kinds.Must = (node_limit, 13)
+most kinds.Not = (node_limit, 12)
+most kinds.Monitor = (node_limit, 16)
+most kinds.Pocket = (node_limit, 5 * node_limit + 22)
+most kinds.Path = (path_limit, 5 * node_limit + 15)
+most kinds.Recipe = (link_limit, 161)
 most kinds.End = (1, 7)
 
 -- the row of each such item has no more bytes; that of a name may stand in quotes
-item_size : (k : Kind) (i : ℕ) (x : Item k) → i < 16000 → IsLowItem k x → row_size (row_of k i x) ≤ (most k).1
+item_size : (k : Kind) (i : ℕ) (x : Item k) → i < path_limit → IsLowItem k x → row_size (row_of k i x) ≤ (most k).1
 item_size kinds.Plan i format low few = omega (arith, fits_size 1 (decimal format) (decimal_fits 1 format (omega arith) (omega (arith, few)) (omega (arith, few))))
 item_size kinds.Node i name low few = omega (arith, fits_size 5 (decimal i) (number_fits i low), name_size name few)
-item_size kinds.Link i l low ends = omega (arith, fits_size 5 (decimal i) (number_fits i low), fits_size 3 (decimal l.a) (node_fits l.a ends.0), fits_size 3 (decimal l.b) (node_fits l.b ends.1))
-item_size kinds.Must i v low few = omega (arith, fits_size 3 (decimal v) (node_fits v few))
-item_size kinds.Not i v low few = omega (arith, fits_size 3 (decimal v) (node_fits v few))
-item_size kinds.Monitor i v low few = omega (arith, fits_size 3 (decimal v) (node_fits v few))
+item_size kinds.Link i l low ends = omega (arith, fits_size 5 (decimal i) (number_fits i low), fits_size 4 (decimal l.a) (node_fits l.a ends.0), fits_size 4 (decimal l.b) (node_fits l.b ends.1))
+item_size kinds.Must i v low few = omega (arith, fits_size 4 (decimal v) (node_fits v few))
+item_size kinds.Not i v low few = omega (arith, fits_size 4 (decimal v) (node_fits v few))
+item_size kinds.Monitor i v low few = omega (arith, fits_size 4 (decimal v) (node_fits v few))
 item_size kinds.Pocket i k low few =
-    omega (arith, fits_size 5 (decimal i) (number_fits i low), fits_size 3 (decimal k.need) (node_fits k.need few.0), fits_size 4000 (numbers_text k.nodes) (nodes_fit k.nodes few.1))
-item_size kinds.Path i nodes low few = omega (arith, fits_size 5 (decimal i) (number_fits i low), fits_size 4000 (numbers_text nodes) (nodes_fit nodes few))
+    omega (arith, fits_size 5 (decimal i) (number_fits i low), fits_size 4 (decimal k.need) (node_fits k.need few.0), fits_size (5 * node_limit) (numbers_text k.nodes) (nodes_fit k.nodes few.1))
+item_size kinds.Path i nodes low few = omega (arith, fits_size 5 (decimal i) (number_fits i low), fits_size (5 * node_limit) (numbers_text nodes) (nodes_fit nodes few))
 item_size kinds.Recipe i terms low few = omega (arith, fits_size 5 (decimal i) (number_fits i low), fits_size 144 (terms_text terms) (terms_fit terms few))
 item_size kinds.End i t low few = omega arith
 
@@ -150,7 +149,7 @@ items_low p within kinds.Recipe = (within.recipes, within.few_recipes)
 items_low p within kinds.End = (λ i d l. tt, omega arith)
 
 -- the rows of such items together
-items_size : (k : Kind) (i : ℕ) (xs : List (Item k)) → i + length xs ≤ 16000 → All (IsLowItem k) xs → sum_by row_size (numbered (row_of k) i xs) ≤ length xs * (most k).1
+items_size : (k : Kind) (i : ℕ) (xs : List (Item k)) → i + length xs ≤ path_limit → All (IsLowItem k) xs → sum_by row_size (numbered (row_of k) i xs) ≤ length xs * (most k).1
 unfolding numbered
 items_size k i [] room all = omega arith
 items_size k i (x ∷ xs) room all =
@@ -164,7 +163,7 @@ most_of [] = 0
 most_of (k ∷ ks) = (most k).0 * (most k).1 + most_of ks
 
 -- of no kind there are more rows than paths may be
-few_rows : (k : Kind) → (most k).0 ≤ 16000
+few_rows : (k : Kind) → (most k).0 ≤ path_limit
 few_rows kinds.Plan = omega arith
 few_rows _ = omega arith
 

@@ -1,13 +1,12 @@
 -- A plan that takes the row of an item has the item besides.
-use Rattle.std.proofs.Common.{◌≡◌, ℕ, ◌+◌, ◌==◌, Bool, true, false, cond, List, [], ◌∷◌, ◌++◌, length, inl, inr, refl, sym, ap, subst, ◌∙◌, arith, IsTrue}
+use Rattle.std.proofs.Common.{◌≡◌, ◌+◌, ◌==◌, false, cond, [], ◌∷◌, ◌++◌, length, inl, inr, refl, sym, ap, subst, ◌∙◌, arith}
 use Rattle.std.proofs.lemmas.Bool.{cases_Bool, eqb-true, ne_eqb}
 use Rattle.std.proofs.lemmas.List.{append-nil}
 use Rattle.rows.specs.Rows.{Row}
 use Rattle.plan_form.specs.declared.kinds.Kind.{Kind}
-use Rattle.plan_form.specs.declared.kinds.Kind.TheVariants as kinds
 use Rattle.plan_form.specs.Kinds.{place}
 use Rattle.plan_form.specs.Parts.{PlanParts}
-use Rattle.plan_form.specs.PlanRows.{Item, row_of, numbered}
+use Rattle.plan_form.specs.PlanRows.{row_of, numbered}
 use Rattle.plan_form.specs.Reading.{IsRow}
 use Rattle.plan_form.specs.Taking.{IsPart, told_items, told_rows, AddsItem, TakesItem}
 use Rattle.plan_form.proofs.Numbering.{numbered-push}

@@ -1,20 +1,18 @@
 -- What the rows of each kind tell, kind by kind, and what that comes to whatever the kind is.
-use Rattle.std.proofs.Common.{◌≡◌, ◌≢◌, ◌⊎◌, inl, inr, ℕ, ◌+◌, ◌<◌, ◌≤◌, ◌^◌, ◌==◌, nat_le, Bool, true, false, cond, List, [], ◌∷◌, ◌++◌, length, slice_get, Some, refl, sym, ap, ap₂, subst, ◌∙◌, arith, All, IsTrue}
+use Rattle.std.proofs.Common.{◌≡◌, ◌⊎◌, inl, inr, ℕ, ◌<◌, ◌≤◌, ◌^◌, true, false, [], ◌∷◌, length, slice_get, Some, refl, sym, ap, ap₂, ◌∙◌, arith, All}
 use Rattle.std.specs.Fmt.{decimal}
-use Rattle.std.proofs.lemmas.Bool.{both_ways, false≢true, cases_Bool, le-leb, and_parts, or_cases}
+use Rattle.std.proofs.lemmas.Bool.{both_ways, false≢true, le-leb}
 use Rattle.std.proofs.lemmas.Option.{same_Some}
 use Rattle.std.proofs.lemmas.Slice.Eq.{bytes_eq-Decides}
 use Rattle.std.proofs.lemmas.List.Elements.{All-cons}
-use Rattle.std.proofs.lemmas.List.{append-nil}
-use Rattle.tomo_base.specs.declared.graph.Link.{Link}
 use Rattle.rows.specs.Rows.{Row}
 use Rattle.plan_form.specs.declared.kinds.Kind.{Kind}
 use Rattle.plan_form.specs.declared.kinds.Kind.TheVariants as kinds
 use Rattle.plan_form.specs.Kinds.{newest_format, oldest_format, field, is_format, is_numbered, in_turn, row_kind, place, since}
-use Rattle.plan_form.specs.Parts.{PlanPocket, PlanParts, IsSmall, IsWellFormed, IsSmallLink, IsSmallPocket}
-use Rattle.plan_form.specs.PlanRows.{Item, IsItem, items, row_of, numbered, rows_of_kind, link_row, pocket_row, IsToldIn}
+use Rattle.plan_form.specs.Parts.{PlanParts, IsSmall, IsWellFormed}
+use Rattle.plan_form.specs.PlanRows.{Item, IsItem, items, row_of, numbered, rows_of_kind, IsToldIn}
 use Rattle.plan_form.specs.Reading.{IsRow}
-use Rattle.plan_form.specs.Taking.{IsPart, told_items, told_rows}
+use Rattle.plan_form.specs.Taking.{IsPart, told_rows}
 use Rattle.plan_form.proofs.Texts.{number_injective, numbers_injective, terms_injective}
 
 -- a place is that of one kind

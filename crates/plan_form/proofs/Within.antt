@@ -71,10 +71,10 @@ pocket_low g k few good = (omega (arith, good.need), nodes_few g.nodes k.nodes f
 
 -- so a good plan is within the limits
 pub good_within : GoodIsWithinLimits
-good_within t p is formed good four =
+good_within t p is formed good few =
     let names : length p.names ≡ length t.names = ap (λ xs. length xs) good.names in
     let links : length p.links ≡ length t.graph.links = ap (λ xs. length xs) good.links in
-    let paths : length p.paths ≤ path_limit = omega (arith, four, links, is.few_links) in
+    let paths : length p.paths ≤ path_limit = omega (arith, few, links, is.few_links) in
     record {
       few_names = omega (arith, names, is.one_each, is.few_nodes);
       names = λ k d l. name_short (get_or p.names k d) (formed.names.each k d l);

@@ -1,5 +1,5 @@
 -- What holds of the rows of plans.
-use Rattle.std.specs.Prelude.{ℕ, ◌≡◌, ◌≢◌, ◌*◌, ◌≤◌, List, length}
+use Rattle.std.specs.Prelude.{ℕ, ◌≡◌, ◌≢◌, ◌≤◌, List, length}
 use Rattle.rows.specs.Rows.{Row, rows_of, text_of}
 use Rattle.topology.specs.Topology.{Topo, IsTopology}
 use Rattle.plan_form.specs.declared.faults.PlanFault.{PlanFault}
@@ -36,6 +36,6 @@ PrintedIsReadBack = (p : PlanParts) → IsWellFormed p → HoldsPlan (text_of (p
 abbrev pub PrintedIsShort : Type 0
 PrintedIsShort = (p : PlanParts) → IsWithinLimits p → length (text_of (plan_rows p)) ≤ text_limit
 
--- a good plan of a topology, with at most four paths for each link, is within the limits
+-- a good plan of a topology, with no more paths than links, is within the limits
 abbrev pub GoodIsWithinLimits : Type 0
-GoodIsWithinLimits = (t : Topo) (p : PlanParts) → IsTopology t → IsWellFormed p → IsGoodPlan t.names t.graph p → length p.paths ≤ 4 * length p.links → IsWithinLimits p
+GoodIsWithinLimits = (t : Topo) (p : PlanParts) → IsTopology t → IsWellFormed p → IsGoodPlan t.names t.graph p → length p.paths ≤ length p.links → IsWithinLimits p

@@ -1,5 +1,5 @@
 -- How large a plan may be, and how long its text then is at most.
-use Rattle.std.specs.Prelude.{ℕ, ◌*◌, ◌<◌, ◌≤◌, List, length, All}
+use Rattle.std.specs.Prelude.{ℕ, ◌<◌, ◌≤◌, List, length, All}
 use Rattle.tomo_base.specs.Limits.{link_limit, node_limit}
 use Rattle.tomo_base.specs.declared.graph.Link.{Link}
 use Rattle.simple_path.specs.declared.recipe.Term.{Term}
@@ -17,9 +17,9 @@ IsLowLink l = (l.a < node_limit) × (l.b < node_limit)
 abbrev pub IsLowPocket : PlanPocket → Type 0
 IsLowPocket k = (k.need < node_limit) × AreFewNodes k.nodes
 
--- the most paths of a plan: four for each link of a topology
+-- the most paths of a plan: one for each link of a topology
 abbrev pub path_limit : ℕ
-path_limit = 4 * link_limit
+path_limit = link_limit
 
 -- at most 16 terms, with coefficients from -4 to 4 and path numbers below the limit
 abbrev pub AreFewTerms : List Term → Type 0

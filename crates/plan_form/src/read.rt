@@ -3,7 +3,7 @@ ghost use Rattle.std.specs.Prelude.{◌≡◌, ◌+◌, ◌<◌, ◌^◌, length
 ghost use Rattle.rows.specs.Rows.{byte_count};
 ghost use Rattle.topology.specs.Names.{row_at};
 ghost use Rattle.plan_form.specs.Parts.{IsWellFormed};
-ghost use Rattle.plan_form.specs.PlanRows.{AreRowsOf};
+ghost use Rattle.plan_form.specs.PlanRows.{AreRowsOf, row_count};
 ghost use Rattle.plan_form.specs.Reading.{IsFirstPlanFault};
 ghost use Rattle.plan_form.specs.Taking.{no_parts, told_items, HasRoom, IsRecordAt, TakesItem, RefusesItem, IsNextKind, RefusesKind};
 
@@ -96,6 +96,7 @@ pub fn read_plan(alloc: Global, rows: &Rows) -> Result<Plan, PlanFault>
     requires { byte_count rows.now.closed < 2 ^ 31 }
     ensures read { IfOk result (AreRowsOf rows.now.closed) }
     ensures formed { IfOk result IsWellFormed }
+    ensures few_rows { IfOk result (λ p. row_count p < 2 ^ 32) }
     ensures fault { IfErr result (IsFirstPlanFault rows.now.closed) }
 {
     let format = format_of(rows);

@@ -5,6 +5,7 @@ use Rattle.std.specs.Str.Parse.{AllDigits, digits_value, ParsesUnsigned}
 use Rattle.std.proofs.lemmas.Fmt.{IsAscii-from_digits}
 use Rattle.std.proofs.lemmas.Str.{IsUtf8-from_ascii}
 use Rattle.std.proofs.lemmas.Str.Parse.{IsNumeralModel, digit_at, numerals_by_value, tells_digits, parse_plain}
+use Rattle.tomo_base.specs.Limits.{sum_limit}
 use Rattle.rows.specs.Blanks.{trimmed}
 use Rattle.round_reader.specs.Sums.{IsSum}
 
@@ -32,7 +33,7 @@ read_as : {E : Type 0} (bs : List ℕ) (r : Result ℕ E) → ParsesUnsigned 64 
 read_as bs r h ne = parse_plain plain 64 bs r h ne
 
 -- what is read is a sum, if it is small
-pub sum_from : {E : Type 0} (field : List ℕ) (r : Result ℕ E) (v : ℕ) → ParsesUnsigned 64 10 (trimmed field) r → r ≡ Ok v → (get_or (trimmed field) 0 0 ≡ 43 → ⊥) → length (trimmed field) ≤ 20 → v ≤ 10 ^ 15 → IsSum field v
+pub sum_from : {E : Type 0} (field : List ℕ) (r : Result ℕ E) (v : ℕ) → ParsesUnsigned 64 10 (trimmed field) r → r ≡ Ok v → (get_or (trimmed field) 0 0 ≡ 43 → ⊥) → length (trimmed field) ≤ 20 → v ≤ sum_limit → IsSum field v
 sum_from {E} field r v h e ne few small =
     let all : AllDigits 10 (trimmed field) × (0 < length (trimmed field)) × (digits_value 10 (trimmed field) < 2 ^ 64) × (v ≡ digits_value 10 (trimmed field)) = go (subst (λ q. OkIff q (AllDigits 10 (trimmed field) × (0 < length (trimmed field)) × (digits_value 10 (trimmed field) < 2 ^ 64)) (digits_value 10 (trimmed field))) e (read_as (trimmed field) r h ne)) in
     record { some = all.1; few = few; digits = all.0; value = all.3; bounded = small }
@@ -41,7 +42,7 @@ sum_from {E} field r v h e ne few small =
     go p = (p.0.0, p.0.1, p.0.2, p.1)
 
 -- a large number is no sum
-pub no_large_sum : {E : Type 0} (field : List ℕ) (r : Result ℕ E) (v : ℕ) → ParsesUnsigned 64 10 (trimmed field) r → r ≡ Ok v → (get_or (trimmed field) 0 0 ≡ 43 → ⊥) → 10 ^ 15 < v → (s : ℕ) → IsSum field s → ⊥
+pub no_large_sum : {E : Type 0} (field : List ℕ) (r : Result ℕ E) (v : ℕ) → ParsesUnsigned 64 10 (trimmed field) r → r ≡ Ok v → (get_or (trimmed field) 0 0 ≡ 43 → ⊥) → sum_limit < v → (s : ℕ) → IsSum field s → ⊥
 no_large_sum {E} field r v h e ne large s is =
     let all = subst (λ q. OkIff q (AllDigits 10 (trimmed field) × (0 < length (trimmed field)) × (digits_value 10 (trimmed field) < 2 ^ 64)) (digits_value 10 (trimmed field))) e (read_as (trimmed field) r h ne) in
     absurd (omega (arith, all.1, is.value, is.bounded, large))

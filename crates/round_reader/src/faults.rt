@@ -13,7 +13,7 @@ pub enum RoundFault {
     Width(u32),
     /// The field of the row is no sum: it has not 1 to 20 digits between blanks, or is more than `SUM_LIMIT`.
     /// The message takes no constant, so the number stands in it.
-    #[error("row {0}, field {1}: no number of at most 10^15")]
+    #[error("row {0}, field {1}: no number of at most 2 * 10^18")]
     Number(u32, u32),
 }
 

@@ -7,13 +7,13 @@ pub const GRAPH_NODE_LIMIT: u32 = 10_000;
 pub const GRAPH_LINK_LIMIT: usize = 20_000;
 
 /// The most nodes that a topology may have.
-pub const NODE_LIMIT: u32 = 1_000;
+pub const NODE_LIMIT: u32 = 2_000;
 
 /// The most links that a topology may have.
-pub const LINK_LIMIT: usize = 4_000;
+pub const LINK_LIMIT: usize = 8_000;
 
 /// The largest delay of a link.
-pub const DELAY_LIMIT: u64 = 1_000_000_000_000;
+pub const DELAY_LIMIT: u64 = 1_000_000_000_000_000;
 
 /// The largest sum that may be measured along a path.
-pub const SUM_LIMIT: u64 = 1_000_000_000_000_000;
+pub const SUM_LIMIT: u64 = 2_000_000_000_000_000_000;

@@ -23,14 +23,14 @@ abbrev IsTaken : Topo → PlanParts → Next → Type 0
 IsTaken t p next = (c : Checked) × (c.topology ≡ t) × (c.plan ≡ p) × (next ≡ Ask (Sums c))
 
 -- a good plan goes on to its rounds
-good_goes_on : GoodHasNoFault → (t : Topo) (p : PlanParts) (name : List ℕ) (next : Next) → IsGoodPlan t.names t.graph p → TakesGood t p name next → IsTaken t p next
-good_goes_on no_fault t p name next good (inl (again, c, topology, plan, next_is)) = (c, topology, plan, next_is)
-good_goes_on no_fault t p name next good (inr (f, fault, refused)) = absurd (no_fault t p f good fault)
+good_goes_on : GoodHasNoFault → (t : Topo) (p : PlanParts) (name : List ℕ) (next : Next) → IsGoodPlan t.names t.graph p → TakesGood (λ c. Ask (Sums c)) t p name next → IsTaken t p next
+good_goes_on no_fault t p name next good (inl (c, of, next_is)) = (c, of.1, of.2, next_is)
+good_goes_on no_fault t p name next good (inr (refusal, refuses, refused)) = absurd (no_fault t p refuses.0 good refuses.1)
 
 -- the plan that is read is the one that was printed
 plan_goes_on : GoodHasNoFault → (t : Topo) (p : PlanParts) (name : List ℕ) (next : Next) → IsGoodPlan t.names t.graph p → IsKept p → TakesPlan Solve t name (rows_of (text_of (plan_rows p))) next → IsTaken t p next
 plan_goes_on no_fault t p name next good kept (inl (q, formed, rows, on)) =
-    good_goes_on no_fault t p name next good (subst (λ (q : PlanParts). TakesGood t q name next) (kept.back.only q formed rows) on)
+    good_goes_on no_fault t p name next good (subst (λ (q : PlanParts). TakesGood (λ c. Ask (Sums c)) t q name next) (kept.back.only q formed rows) on)
 plan_goes_on no_fault t p name next good kept (inr (f, some, first, refused)) = absurd (some (kept.back.fine f first))
 
 -- its text is within the limit

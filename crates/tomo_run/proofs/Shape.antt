@@ -17,7 +17,7 @@ use Rattle.tomo_run.specs.declared.machine.Next.TheVariants.{Stop}
 use Rattle.tomo_run.specs.declared.table.Command.{Command}
 use Rattle.tomo_run.specs.declared.table.Command.TheVariants.{OnFiles, Drill}
 use Rattle.tomo_run.specs.declared.table.FileTask.TheVariants.{OnTopology, OnMonitors, OnChoice, OnPlan}
-use Rattle.tomo_run.specs.declared.table.PlanTask.TheVariants.{Check, Solve}
+use Rattle.tomo_run.specs.declared.table.PlanTask.TheVariants.{Check, Migrate, Solve}
 use Rattle.tomo_run.specs.declared.table.Shape.{Shape}
 
 -- a shape has as many words after its place as the command has files
@@ -80,8 +80,14 @@ files_few (OnFiles (OnTopology task)) = omega arith
 files_few (OnFiles (OnMonitors task)) = omega arith
 files_few (OnFiles OnChoice) = omega arith
 files_few (OnFiles (OnPlan Check)) = omega arith
+files_few (OnFiles (OnPlan Migrate)) = omega arith
 files_few (OnFiles (OnPlan Solve)) = omega arith
 files_few (Drill numbers) = omega arith
+
+-- the first file is the second word or the third
+pub first_low : (header : Bool) → first_place header ≤ 2
+first_low true = omega arith
+first_low false = omega arith
 
 -- the place of a file is one of the words
 pub file_place : (words : List (List ℕ)) (s : Shape) (turn : ℕ) → shape words ≡ Some s → turn < length (file_words words) → first_place s.header + turn < length words

@@ -2,7 +2,7 @@
 use Rattle.std.specs.Prelude.{ℕ, ◌≡◌, ◌≢◌, ◌+◌, ◌<◌, ◌⊎◌, List, length, codes, decimal, Bool, Option, nat_lt, Ok, MatchBool}
 use Rattle.outside.specs.Shelf.{Files, Gives, Tells}
 use Rattle.outside.specs.declared.shelf.Got.{Got}
-use Rattle.rows.specs.Rows.{Row, rows_of}
+use Rattle.rows.specs.Rows.{Row, RowList, rows_of}
 use Rattle.topology.specs.Topology.{Topo, IsTopology, names_of, topo_of}
 use Rattle.topology.specs.Faults.{AllFine, IsTopoFault, examined}
 use Rattle.topology.specs.declared.faults.TopoFault.{TopoFault}
@@ -37,7 +37,7 @@ use Rattle.round_reader.specs.declared.faults.RoundFault.TheVariants as round_fa
 use Rattle.plan_form.specs.declared.faults.PlanFault.{PlanFault}
 use Rattle.plan_form.specs.declared.faults.PlanFault.TheVariants as plan_faults
 use Rattle.tomo_run.specs.declared.table.PlanTask.{PlanTask}
-use Rattle.tomo_run.specs.declared.table.PlanTask.TheVariants.{Check, Solve}
+use Rattle.tomo_run.specs.declared.table.PlanTask.TheVariants.{Check, Migrate, Solve}
 use Rattle.answers.specs.declared.placed.Placed.{Placed}
 use Rattle.answers.specs.declared.chosen.Chosen.{Chosen}
 use Rattle.answers.specs.declared.checked.Checked.{Checked}
@@ -68,6 +68,7 @@ files_left (Topology task header) = length (files_of (OnFiles task))
 files_left (Monitors task topology) = 1
 files_left (AChoice topology) = 1
 files_left (APlan Check topology) = 1
+files_left (APlan Migrate topology) = 1
 files_left (APlan Solve topology) = 2
 files_left (Sums checked) = 1
 
@@ -115,16 +116,24 @@ TakesChoice t name rows next =
     (AreFineChoices t.names rows (length rows) × (c : Chosen) × (c.topology ≡ t) × (c.choice ≡ choice_of t.names rows) × (next ≡ ready (files.OnChoice c)))
     ⊎ ((f : ChoiceFault) × (f ≢ choice_faults.NoMemory) × IsChoiceFault t.names rows f × (next ≡ Stop (Refused (refused name (choice_reason f) (choice_place f)))))
 
--- a good plan goes on to the sums, any other is refused for its first fault
-abbrev pub TakesGood : Topo → PlanParts → List ℕ → Next → Type 0
-TakesGood t p name next =
-    (IsGoodPlan t.names t.graph p × (c : Checked) × (c.topology ≡ t) × (c.plan ≡ p) × (next ≡ Ask (Sums c)))
-    ⊎ ((f : Fault) × IsFault t p f × (next ≡ Stop (Refused (refused name (check_reason f) (decimal (fault_number f))))))
+-- the plan is good, and c is the topology with it
+abbrev pub IsCheckedOf : Topo → PlanParts → Checked → Type 0
+IsCheckedOf t p c = IsGoodPlan t.names t.graph p × (c.topology ≡ t) × (c.plan ≡ p)
+
+-- the row refuses the plan for its first fault
+abbrev pub RefusesFault : Topo → PlanParts → List ℕ → RowList → Type 0
+RefusesFault t p name refusal = (f : Fault) × IsFault t p f × (refusal ≡ refused name (check_reason f) (decimal (fault_number f)))
+
+-- a good plan goes on in this way, any other is refused for its first fault
+abbrev pub TakesGood : (Checked → Next) → Topo → PlanParts → List ℕ → Next → Type 0
+TakesGood on t p name next =
+    ((c : Checked) × IsCheckedOf t p c × (next ≡ on c)) ⊎ ((refusal : RowList) × RefusesFault t p name refusal × (next ≡ Stop (Refused refusal)))
 
 -- what a task does with its topology and plan
 abbrev pub GoesOn : PlanTask → Topo → PlanParts → List ℕ → Next → Type 0
 GoesOn Check t p name next = next ≡ ready (files.Check (record { topology = t; plan = p }))
-GoesOn Solve t p name next = TakesGood t p name next
+GoesOn Migrate t p name next = TakesGood (λ c. ready (files.Migrate c)) t p name next
+GoesOn Solve t p name next = TakesGood (λ c. Ask (Sums c)) t p name next
 
 -- what the rows of a plan file do: they are those of a plan, or refused for their first fault
 abbrev pub TakesPlan : PlanTask → Topo → List ℕ → List Row → Next → Type 0

@@ -8,7 +8,7 @@ use Rattle.answers.specs.declared.tasks.TopologyTask.TheVariants.{Plan, Componen
 use Rattle.tomo_run.specs.declared.table.FileTask.{FileTask}
 use Rattle.tomo_run.specs.declared.table.FileTask.TheVariants.{OnTopology, OnMonitors, OnChoice, OnPlan}
 use Rattle.answers.specs.declared.tasks.MonitorTask.TheVariants.{Judge, Paths, Link}
-use Rattle.tomo_run.specs.declared.table.PlanTask.TheVariants.{Check, Solve}
+use Rattle.tomo_run.specs.declared.table.PlanTask.TheVariants.{Check, Migrate, Solve}
 use Rattle.answers.specs.declared.file_kind.FileKind.{FileKind}
 use Rattle.answers.specs.declared.file_kind.FileKind.TheVariants.{TopologyFile, MonitorFile, ChoiceFile, PlanFile, RoundFile}
 use Rattle.tomo_run.specs.declared.table.Shape.{Shape}
@@ -25,6 +25,7 @@ table =
     ∷ (codes "paths", OnMonitors Paths)
     ∷ (codes "link", OnMonitors Link)
     ∷ (codes "check", OnPlan Check)
+    ∷ (codes "migrate", OnPlan Migrate)
     ∷ (codes "solve", OnPlan Solve)
     ∷ []
 
@@ -48,6 +49,7 @@ files_of (OnFiles (OnTopology task)) = TopologyFile ∷ []
 files_of (OnFiles (OnMonitors task)) = TopologyFile ∷ MonitorFile ∷ []
 files_of (OnFiles OnChoice) = TopologyFile ∷ ChoiceFile ∷ []
 files_of (OnFiles (OnPlan Check)) = TopologyFile ∷ PlanFile ∷ []
+files_of (OnFiles (OnPlan Migrate)) = TopologyFile ∷ PlanFile ∷ []
 files_of (OnFiles (OnPlan Solve)) = TopologyFile ∷ PlanFile ∷ RoundFile ∷ []
 files_of (Drill numbers) = []
 

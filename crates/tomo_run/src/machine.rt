@@ -1,9 +1,10 @@
 // The machine that takes in one file after the other, and never sees a device.
-ghost use Rattle.std.specs.Prelude.{◌≡◌, ◌<◌, ◌≤◌, ◌^◌, IfOk, length};
+ghost use Rattle.std.specs.Prelude.{◌≡◌, ◌<◌, ◌≤◌, ◌^◌, IfOk, IfErr, length};
 ghost use Rattle.rows.specs.Rows.{rows_of, byte_count};
+ghost use Rattle.plan_form.specs.PlanRows.{row_count};
 ghost use Rattle.tomo_run.specs.Table.{files_of};
 ghost use Rattle.answers.specs.FileKinds.{limit};
-ghost use Rattle.tomo_run.specs.Machine.{files_left, kind_of, start, ready as all_read, with_topology as then_topology, TakesTopology, TakesMonitors, TakesChoice, TakesGood, GoesOn, TakesPlan, TakesSums, Takes, StepsBy, Fewer, StartsWith};
+ghost use Rattle.tomo_run.specs.Machine.{files_left, kind_of, start, ready as all_read, with_topology as then_topology, TakesTopology, TakesMonitors, TakesChoice, IsCheckedOf, RefusesFault, GoesOn, TakesPlan, TakesSums, Takes, StepsBy, Fewer, StartsWith};
 ghost use Rattle.tomo_run.specs.declared.machine.Wants.TheVariants.{APlan};
 ghost use Rattle.tomo_run.specs.declared.table.Command.TheVariants.{OnFiles};
 ghost use Rattle.answers.specs.declared.file_kind.FileKind.TheVariants.{RoundFile};
@@ -159,14 +160,20 @@ fn take_choice(alloc: Global, topology: Topology, name: &str, rows: &Rows) -> Re
     }
 }
 
-// Takes in a plan if it is good, or refuses it for its first fault.
-fn take_good(alloc: Global, topology: Topology, plan: Plan, name: &str) -> Result<Next, NoMemory>
-    ensures taken { IfOk result (λ next. TakesGood topology plan name.now next) }
-    ensures fewer { IfOk result (λ next. Fewer 2 next) }
+// A plan that is good, or the row that refuses it for its first fault.
+fn good_plan(
+    alloc: Global,
+    topology: Topology,
+    plan: Plan,
+    name: &str,
+) -> Result<Result<Checked, Rows>, NoMemory>
+    requires { row_count plan < 2 ^ 32 }
+    ensures good { IfOk result (λ r. IfOk r (IsCheckedOf topology plan)) }
+    ensures refused { IfOk result (λ r. IfErr r (RefusesFault topology plan name.now)) }
 {
     match check(alloc, &topology, &plan)? {
-        Report::Good { .. } => Ok(Next::Ask(Wants::Sums(Checked { topology, plan }))),
-        Report::Bad(fault) => Ok(Next::Stop(End::Refused(refuse_fault(alloc, name, fault)?))),
+        Report::Good { .. } => Ok(Ok(Checked { topology, plan })),
+        Report::Bad(fault) => Ok(Err(refuse_fault(alloc, name, fault)?)),
     }
 }
 
@@ -178,12 +185,20 @@ fn with_plan(
     plan: Plan,
     name: &str,
 ) -> Result<Next, NoMemory>
+    requires { row_count plan < 2 ^ 32 }
     ensures after { IfOk result (λ next. GoesOn task topology plan name.now next) }
     ensures fewer { IfOk result (λ next. Fewer (files_left (APlan task topology)) next) }
 {
     match task {
         PlanTask::Check => Ok(ready(FileInputs::Check(Planned { topology, plan }))),
-        PlanTask::Solve => take_good(alloc, topology, plan, name),
+        PlanTask::Migrate => match good_plan(alloc, topology, plan, name)? {
+            Ok(checked) => Ok(ready(FileInputs::Migrate(checked))),
+            Err(refusal) => Ok(Next::Stop(End::Refused(refusal))),
+        },
+        PlanTask::Solve => match good_plan(alloc, topology, plan, name)? {
+            Ok(checked) => Ok(Next::Ask(Wants::Sums(checked))),
+            Err(refusal) => Ok(Next::Stop(End::Refused(refusal))),
+        },
     }
 }
 

@@ -26,6 +26,7 @@ pub enum FileTask {
 #[derive(Clone, Copy, Debug, PartialEq, Eq)]
 pub enum PlanTask {
     Check,
+    Migrate,
     Solve,
 }
 
@@ -48,6 +49,7 @@ fn named_task(word: &str) -> Option<FileTask>
         "paths" => Some(FileTask::OnMonitors(MonitorTask::Paths)),
         "link" => Some(FileTask::OnMonitors(MonitorTask::Link)),
         "check" => Some(FileTask::OnPlan(PlanTask::Check)),
+        "migrate" => Some(FileTask::OnPlan(PlanTask::Migrate)),
         "solve" => Some(FileTask::OnPlan(PlanTask::Solve)),
         _ => None,
     }
@@ -62,7 +64,7 @@ fn file_count(command: Command) -> u32
         Command::OnFiles(FileTask::OnTopology(_)) => 1,
         Command::OnFiles(FileTask::OnMonitors(_)) => 2,
         Command::OnFiles(FileTask::OnChoice) => 2,
-        Command::OnFiles(FileTask::OnPlan(PlanTask::Check)) => 2,
+        Command::OnFiles(FileTask::OnPlan(PlanTask::Check | PlanTask::Migrate)) => 2,
         Command::OnFiles(FileTask::OnPlan(PlanTask::Solve)) => 3,
         Command::Drill(_) => 0,
     }

@@ -19,10 +19,10 @@ pub enum TopoFault {
     #[error("row {0}: a link from a node to itself")]
     Loop(u32),
     /// With this row there are more nodes than `NODE_LIMIT`. The message takes no constant, so the number stands in it.
-    #[error("row {0}: more than 1000 nodes")]
+    #[error("row {0}: more than 2000 nodes")]
     Nodes(u32),
     /// With this row there are more links than `LINK_LIMIT`. The message takes no constant, so the number stands in it.
-    #[error("row {0}: more than 4000 links")]
+    #[error("row {0}: more than 8000 links")]
     Links(u32),
     /// There are fewer than three nodes, so many.
     #[error("{0} nodes, fewer than 3")]

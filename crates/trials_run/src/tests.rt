@@ -1,6 +1,7 @@
 mod changes;
 mod choosing;
 mod faults;
+mod migrating;
 mod planning;
 mod refusals;
 mod solving;

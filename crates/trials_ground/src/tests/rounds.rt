@@ -18,11 +18,11 @@ fn read(alloc: Global, text: &[u8]) -> Result<Result<Rounds, RoundFault>, Fail>
 fn sums_are_read(rt: HostRuntime) -> Result<(), Fail> {
     let rounds = read(
         rt.alloc(),
-        b"5,6,7\n 0\t,00000000000000000001,1000000000000000\n",
+        b"5,6,7\n 0\t,00000000000000000001,2000000000000000000\n",
     )??;
     assert!(rt; rounds.len() == 2);
     assert!(rt; rounds.round(0) == [5, 6, 7].as_slice());
-    assert!(rt; rounds.round(1) == [0, 1, 1_000_000_000_000_000].as_slice());
+    assert!(rt; rounds.round(1) == [0, 1, 2_000_000_000_000_000_000].as_slice());
     Ok(())
 }
 
@@ -38,7 +38,7 @@ fn the_first_fault_is_told(rt: HostRuntime) -> Result<(), Fail> {
     );
     assert!(rt;
         matches!(
-            read(alloc, b"1,1000000000000001,3\n")?,
+            read(alloc, b"1,2000000000000000001,3\n")?,
             Err(RoundFault::Number(1, 2))
         )
     );

@@ -128,10 +128,10 @@ fn chain(alloc: Global, links: u32) -> Result<String, Fail> {
 fn limits_are_kept(rt: HostRuntime) -> Result<(), Fail> {
     let alloc = rt.alloc();
     for (text, fault) in [
-        (chain(alloc, 999)?, None),
-        (chain(alloc, 1_000)?, Some(TopoFault::Nodes(1_000))),
-        (pairs(alloc, 89)?, None),
-        (pairs(alloc, 90)?, Some(TopoFault::Links(4_001))),
+        (chain(alloc, 1_999)?, None),
+        (chain(alloc, 2_000)?, Some(TopoFault::Nodes(2_000))),
+        (pairs(alloc, 126)?, None),
+        (pairs(alloc, 127)?, Some(TopoFault::Links(8_001))),
     ] {
         assert!(rt; text.len() < 100_000);
         let rows = read_rows(alloc, text.as_bytes())?;

@@ -58,26 +58,26 @@ fn pairs(alloc: Global, count: u32) -> Result<String, Fail> {
 }
 
 #[test]
-fn a_thousand_nodes_are_planned(rt: HostRuntime) -> Result<(), Fail> {
-    let text = chain(rt.alloc(), 999)?;
+fn two_thousand_nodes_are_planned(rt: HostRuntime) -> Result<(), Fail> {
+    let text = chain(rt.alloc(), 1999)?;
     let (status, sink) = run(rt.alloc(), &["plan", "t"], &[("t", text.as_bytes())])?;
     assert!(rt; status == Status::Done);
-    assert!(rt; lines_of(sink.bytes(), b"monitor,") == 1000);
-    assert!(rt; lines_of(sink.bytes(), b"path,") == 999);
+    assert!(rt; lines_of(sink.bytes(), b"monitor,") == 2000);
+    assert!(rt; lines_of(sink.bytes(), b"path,") == 1999);
     Ok(())
 }
 
 #[test]
 fn a_node_more_is_refused(rt: HostRuntime) -> Result<(), Fail> {
-    let text = chain(rt.alloc(), 1000)?;
-    assert!(rt; is_refused(rt.alloc(), text.as_bytes(), b"refused,t,nodes,1000\n")?);
+    let text = chain(rt.alloc(), 2000)?;
+    assert!(rt; is_refused(rt.alloc(), text.as_bytes(), b"refused,t,nodes,2000\n")?);
     Ok(())
 }
 
 #[test]
-fn a_link_more_than_four_thousand_is_refused(rt: HostRuntime) -> Result<(), Fail> {
-    let text = pairs(rt.alloc(), 90)?;
-    assert!(rt; is_refused(rt.alloc(), text.as_bytes(), b"refused,t,links,4001\n")?);
+fn a_link_more_than_eight_thousand_is_refused(rt: HostRuntime) -> Result<(), Fail> {
+    let text = pairs(rt.alloc(), 127)?;
+    assert!(rt; is_refused(rt.alloc(), text.as_bytes(), b"refused,t,links,8001\n")?);
     Ok(())
 }
 

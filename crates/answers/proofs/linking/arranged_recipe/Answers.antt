@@ -1,9 +1,6 @@
-use Rattle.std.proofs.Common.{◌≡◌, ◌<◌, ◌∷◌, ◌++◌, [], ℕ, List, All, get_or, arith, rules, refl, sym, ◌∙◌, ap}
+use Rattle.std.proofs.Common.{◌≡◌, ◌∷◌, ◌++◌, [], get_or, arith, rules}
 use Rattle.std.proofs.lemmas.Result.{IfOk-weaker}
 use Rattle.tomo_base.specs.Sets.{has}
-use Rattle.simple_path.specs.declared.recipe.Term.{Term}
-use Rattle.cross_links.specs.CrossRecipe.{AddsRecipe}
-use Rattle.plan_form.specs.Building.{IsBuilt}
 use Rattle.plan_form.proofs.Built.{good_paths, rewritten_within}
 use Rattle.plan_form.proofs.Formed.{nodes_below}
 use Rattle.answers.proofs.CrossTerms.{arrangeable, link_recipe, paths_measured}

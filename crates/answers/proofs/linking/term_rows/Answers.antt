@@ -1,6 +1,5 @@
-use Rattle.std.proofs.Common.{◌∙◌, pos, map, slice_index_or, arith, ap, subst}
+use Rattle.std.proofs.Common.{◌∙◌, pos, map, slice_index_or, arith, ap}
 use Rattle.std.proofs.lemmas.List.{take_all}
-use Rattle.simple_path.specs.Terms.{path_terms}
 use Rattle.answers.specs.Refusals.{only}
 use Rattle.answers.specs.Linking.{term_row}
 use Rattle.answers.proofs.CrossTerms.{with_path}

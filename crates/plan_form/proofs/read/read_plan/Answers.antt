@@ -2,7 +2,9 @@ use Rattle.std.proofs.Common.{◌≡◌, length, arith, sym, subst}
 use Rattle.std.proofs.lemmas.Result.{err_from_is_err_and}
 use Rattle.topology.specs.Names.{row_at}
 use Rattle.plan_form.specs.Parts.{IsWellFormed}
+use Rattle.plan_form.specs.PlanRows.{AreRowsOf}
 use Rattle.plan_form.specs.Reading.{format_of}
+use Rattle.plan_form.proofs.Numbering.{length-AreRowsOf}
 use Rattle.plan_form.proofs.Ending.{walk_done, room_left}
 use Rattle.plan_form.proofs.Spelled.{kind_tells}
 use Rattle.plan_form.proofs.Reader.{Walked, walk_none, walk_on, kind_refused, row_refused}
@@ -33,7 +35,14 @@ returns-in_err-add_row-clause-fault c =
 pub loop-row-preserved : goal.loop-row-preserved
 loop-row-preserved c = walk_on (format_of c.args.rows.now.closed) c.args.rows.now.closed c.loop-row.row c.loop-row.last c.loop-row.plan c.loop-row.invariant (omega arith) c.in_ok-kind.kind c.add_row.new.self (rw c.format_of-format.ensures at c.in_ok-kind.ensures.kind) c.in_ok-add_row.ensures.takes
 
-pub returns-clause-read : goal.returns-clause-read
-returns-clause-read c =
+-- the rows that were read are those of the plan
+read_all : (c : goal.After-drop-room-2) → AreRowsOf c.args.rows.now.closed c.loop-row.plan
+read_all c =
     let all : c.loop-row.row ≡ length c.args.rows.now.closed = omega arith in
     walk_done c.args.rows.now.closed c.loop-row.last c.loop-row.plan (subst (λ r. Walked (format_of c.args.rows.now.closed) c.args.rows.now.closed r c.loop-row.last c.loop-row.plan) all c.loop-row.invariant) (subst IsWellFormed c.plan-2.view_is c.plan-2.invariant) (sym c.if-not-is_end.ensures)
+
+pub returns-clause-read : goal.returns-clause-read
+returns-clause-read c = read_all c
+
+pub returns-clause-few_rows : goal.returns-clause-few_rows
+returns-clause-few_rows c = omega (arith, length-AreRowsOf c.args.rows.now.closed c.loop-row.plan (read_all c))

@@ -4,7 +4,7 @@ use Rattle.outside.specs.Shelf.{Gives}
 use Rattle.tomo_run.specs.Table.{file_words}
 use Rattle.answers.specs.FileKinds.{limit}
 use Rattle.tomo_run.specs.Machine.{start, kind_of}
-use Rattle.tomo_run.proofs.Shape.{file_place, file_count, files_few, start_fit, files_fit}
+use Rattle.tomo_run.proofs.Shape.{file_place, file_count, files_few, first_low, start_fit, files_fit}
 use Rattle.tomo_run.proofs.Gathering.{taken_none, fronts_before, taken_leads, turn_below, turn_named, turn_asks, reading_first, reading_more, reading_ends, asks_all, asked_more, knows_at, gives_wanted, within_wanted}
 use Rattle.tomo_run.proofs.gather.gather.Goals as goal
 
@@ -29,6 +29,11 @@ returns-in-Stop-clause-fit g c = start_fit c.args.words.now c.args.shape c.in-St
 
 pub returns-in-Ok-Stop-clause-fit : goal.returns-in-Ok-Stop-clause-fit
 returns-in-Ok-Stop-clause-fit g c = files_fit _ c.in-Ok-Stop.end (rw c.in-Ok-Stop.field-0-is at c.in-Ok-Stop.ensures.fewer)
+
+pub overflow_add-first : goal.overflow_add-first
+overflow_add-first g c =
+    let below = turn_below _ _ _ _ _ _ _ c.loop-content.invariant.reading in
+    omega (arith, below, file_count c.args.words.now c.args.shape c.requires, files_few c.args.shape.command, c.first-first.ensures, first_low c.args.shape.header)
 
 pub overflow_add-turn : goal.overflow_add-turn
 overflow_add-turn g c =

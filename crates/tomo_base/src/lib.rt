@@ -5,6 +5,7 @@ mod graph;
 mod hop_rows;
 mod limits;
 mod memory;
+mod met;
 mod node_set;
 mod node_sets;
 mod pocket;

@@ -6,6 +6,7 @@ mod hop_rows;
 mod limits;
 mod list_order;
 mod memory;
+mod met;
 mod node_marks;
 mod node_set;
 mod node_sets;

@@ -6,7 +6,7 @@ use Rattle.std.proofs.lemmas.List.Folds.{list_any_more, Any-from_list_any, list_
 use Rattle.tomo_base.specs.declared.graph.Hop.{Hop}
 use Rattle.tomo_base.specs.declared.met.Met.{Met}
 use Rattle.tomo_base.specs.declared.met.Met.TheVariants.{None, One, Two, More}
-use Rattle.tomo_base.specs.Met.{Tells, is_new}
+use Rattle.tomo_base.specs.Met.{AreMet, is_new}
 use Rattle.tomo_base.specs.Network.{Network, linked, IsGraph}
 use Rattle.tomo_base.specs.Sets.{has, count, one_if, touches, outside}
 use Rattle.tomo_base.specs.Table.{AreHops}
@@ -17,7 +17,7 @@ use Rattle.tomo_base.proofs.Members.{one_of_two}
 use Rattle.tomo_base.proofs.Touching.{touches-hops, touches-single, touches-from, touches_gives}
 
 -- the same is told of a set with the same numbers
-pub tells-same : (n : ℕ) (q r : ℕ → Bool) (m : Met) → ((w : ℕ) → q w ≡ r w) → Tells n q m → Tells n r m
+pub tells-same : (n : ℕ) (q r : ℕ → Bool) (m : Met) → ((w : ℕ) → q w ≡ r w) → AreMet n q m → AreMet n r m
 tells-same n q r None same is = λ w. sym (same w) ∙ is w
 tells-same n q r (One a) same is = (is.0, λ w. sym (same w) ∙ is.1 w)
 tells-same n q r (Two a b) same is = (is.0, is.1, is.2, λ w. sym (same w) ∙ is.3 w)
@@ -31,11 +31,11 @@ again q v there w = elim (cases_Bool (v == w)) [
 ]
 
 -- and leaves what is told
-pub tells-again : (n : ℕ) (q : ℕ → Bool) (v : ℕ) (m : Met) → q v ≡ true → Tells n q m → Tells n (λ w. (v == w) || q w) m
+pub tells-again : (n : ℕ) (q : ℕ → Bool) (v : ℕ) (m : Met) → q v ≡ true → AreMet n q m → AreMet n (λ w. (v == w) || q w) m
 tells-again n q v m there is = tells-same n q (λ w. (v == w) || q w) m (again q v there) is
 
 -- a third number
-pub tells_third : (n : ℕ) (q : ℕ → Bool) (v a b : ℕ) → v < n → a ≢ v → b ≢ v → Tells n q (Two a b) → 3 ≤ count n (λ w. (v == w) || q w)
+pub tells_third : (n : ℕ) (q : ℕ → Bool) (v a b : ℕ) → v < n → a ≢ v → b ≢ v → AreMet n q (Two a b) → 3 ≤ count n (λ w. (v == w) || q w)
 tells_third n q v a b l va vb is = count-three n (λ w. (v == w) || q w) v a b l is.0 is.1 (λ e. va (sym e)) (λ e. vb (sym e)) is.2
     (or_left (v == v) (q v) (eq-eqb v v refl))
     (or_right (v == a) (q a) (is.3 a ∙ or_left (a == a) (b == a) (eq-eqb a a refl)))
@@ -46,11 +46,11 @@ pub tells_more : (n : ℕ) (q : ℕ → Bool) (v : ℕ) → 3 ≤ count n q → 
 tells_more n q v is = omega (arith, is, count-mono n q (λ w. (v == w) || q w) (λ w l h. or_right (v == w) (q w) h))
 
 -- a set that has just one number
-pub tells_one : (n : ℕ) (q : ℕ → Bool) (a : ℕ) → Tells n q (One a) → count n q ≡ 1
+pub tells_one : (n : ℕ) (q : ℕ → Bool) (a : ℕ) → AreMet n q (One a) → count n q ≡ 1
 tells_one n q a is = count-one n q a is.0 (is.1 a ∙ eq-eqb a a refl) (λ v l h. sym (eqb-true a v (sym (is.1 v) ∙ h)))
 
 -- a set that has just two
-pub tells_two : (n : ℕ) (q : ℕ → Bool) (a b : ℕ) → Tells n q (Two a b) → count n q ≡ 2
+pub tells_two : (n : ℕ) (q : ℕ → Bool) (a b : ℕ) → AreMet n q (Two a b) → count n q ≡ 2
 tells_two n q a b is =
     let parts : count n q ≡ count n (λ v. a == v) + count n (λ v. b == v) = count-add n q (λ v. a == v) (λ v. b == v)
     (λ v l. ap one_if (is.3 v) ∙ one_of_two (a == v) (b == v) (λ e. ne_eqb b v (λ f. is.2 (eqb-true a v e ∙ sym f)))) in

@@ -7,11 +7,11 @@ use Rattle.tomo_base.specs.declared.met.Met.TheVariants.{None, One, Two, More}
 use Rattle.tomo_base.specs.Sets.{count, has}
 
 -- the set is empty, or has just these numbers, which are below n, or has at least three numbers below n
-abbrev pub Tells : ℕ → (ℕ → Bool) → Met → Type 0
-Tells n q None = (w : ℕ) → q w ≡ false
-Tells n q (One a) = (a < n) × ((w : ℕ) → q w ≡ (a == w))
-Tells n q (Two a b) = (a < n) × (b < n) × (a ≢ b) × ((w : ℕ) → q w ≡ ((a == w) || (b == w)))
-Tells n q More = 3 ≤ count n q
+abbrev pub AreMet : ℕ → (ℕ → Bool) → Met → Type 0
+AreMet n q None = (w : ℕ) → q w ≡ false
+AreMet n q (One a) = (a < n) × ((w : ℕ) → q w ≡ (a == w))
+AreMet n q (Two a b) = (a < n) × (b < n) × (a ≢ b) × ((w : ℕ) → q w ≡ ((a == w) || (b == w)))
+AreMet n q More = 3 ≤ count n q
 
 -- w is outside the set, and a hop leads to it
 abbrev pub is_new : List ℕ → List Hop → ℕ → Bool

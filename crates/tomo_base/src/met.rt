@@ -1,7 +1,7 @@
 // The nodes met so far, of which no more than two are kept.
 ghost use Rattle.std.specs.Prelude.{◌≡◌, ◌<◌, ◌||◌, ◌==◌, ℕ, Bool, min};
 ghost use Rattle.tomo_base.specs.Sets.{count};
-ghost use Rattle.tomo_base.specs.Met.{Tells};
+ghost use Rattle.tomo_base.specs.Met.{AreMet};
 
 // No node, one, two different ones, or at least three.
 #[derive(Clone, Copy)]
@@ -15,7 +15,7 @@ pub enum Met {
 impl Met {
     // The nodes met, after one more, which may have been met before.
     pub fn with(self, v: u32) -> Met
-        ensures { (n : ℕ) (q : ℕ → Bool) → v < n → Tells n q self → Tells n (λ w. (v == w) || q w) result }
+        ensures { (n : ℕ) (q : ℕ → Bool) → v < n → AreMet n q self → AreMet n (λ w. (v == w) || q w) result }
     {
         match self {
             Met::None => Met::One(v),
@@ -27,7 +27,7 @@ impl Met {
 
     // How many different nodes were met, and 3 where there are more.
     pub fn count(self) -> u32
-        ensures { (n : ℕ) (q : ℕ → Bool) → Tells n q self → result ≡ min 3 (count n q) }
+        ensures { (n : ℕ) (q : ℕ → Bool) → AreMet n q self → result ≡ min 3 (count n q) }
     {
         match self {
             Met::None => 0,

@@ -1,7 +1,7 @@
 // Pockets: node sets with at most two outside neighbours, and the monitors that each of them needs.
 ghost use Rattle.std.specs.Prelude.{◌≡◌, ◌<◌, ◌≤◌, ◌+◌, ◌^◌, ◌||◌, ◌++◌, ℕ, Bool, [], ◌∷◌, All, length, OnOk, IfErr, OnErr, slice_get, Some};
 ghost use Rattle.tomo_base.specs.Sets.{has, outside};
-ghost use Rattle.tomo_base.specs.Met.{Tells, is_new};
+ghost use Rattle.tomo_base.specs.Met.{AreMet, is_new};
 ghost use Rattle.tomo_base.specs.Pockets.{need_of};
 
 use crate::graph::{Graph, Hop};
@@ -89,7 +89,7 @@ pub fn need(g: &Graph, p: &NodeSet) -> u32
 // The outside neighbours of the nodes.
 fn outside_met(g: &Graph, p: &NodeSet) -> Met
     requires { All (λ v. v < g.now.nodes) p.now }
-    ensures { Tells g.now.nodes (outside g.now (has p.now)) result }
+    ensures { AreMet g.now.nodes (outside g.now (has p.now)) result }
 {
     let _nodes = g.nodes();
     let mut met = Met::None;
@@ -101,7 +101,7 @@ fn outside_met(g: &Graph, p: &NodeSet) -> Met
 
 // The nodes met, after those outside the set to which the hops lead.
 fn meet(hops: &[Hop], p: &NodeSet, before: Met) -> Met
-    ensures { (n : ℕ) (q : ℕ → Bool) → All (λ h. h.node < n) hops.now → Tells n q before → Tells n (λ w. q w || is_new p.now hops.now w) result }
+    ensures { (n : ℕ) (q : ℕ → Bool) → All (λ h. h.node < n) hops.now → AreMet n q before → AreMet n (λ w. q w || is_new p.now hops.now w) result }
 {
     let mut met = before;
     for hop in hops {

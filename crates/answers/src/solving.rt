@@ -1,7 +1,8 @@
 // Rounds of sums are solved.
-ghost use Rattle.std.specs.Prelude.{◌≡◌, ◌≤◌, ◌<◌, ◌+◌, ◌^◌, ◌++◌, ◌∷◌, [], List, length, map, decimal, codes, IfOk, OnOk};
+ghost use Rattle.std.specs.Prelude.{◌≡◌, ◌≤◌, ◌<◌, ◌+◌, ◌^◌, ◌++◌, ◌∷◌, [], List, length, map, decimal, codes, IfOk, OnOk, IsTrue};
 ghost use Rattle.tomo_base.specs.Limits.{link_limit};
 ghost use Rattle.plan_form.specs.PlanRows.{AddsRows, numbered};
+ghost use Rattle.plan_form.specs.Tied.{AreTied};
 ghost use Rattle.answers.specs.Refusals.{only};
 ghost use Rattle.answers.specs.Rounds.{Outcome, AreOutcomes, why_word, told, round_row, ends_row, refusals, refused_count, count_row, solution_status, Solves};
 
@@ -9,7 +10,7 @@ use crate::answer::Answer;
 use crate::checked::Measured;
 use crate::status::Status;
 use itoa::Buffer;
-use link_solver::{Answer as Verdict, Delays, Why, solve_into};
+use link_solver::{Answer as Verdict, Delays, Why, are_tied, solve_round};
 use rows::Rows;
 use std::alloc::Global;
 use tomo_base::{Link, NoMemory};
@@ -116,11 +117,34 @@ fn refusals_of(verdict: Verdict) -> u32
     }
 }
 
+// From so many rounds on it is tried whether the plan is tied, which takes about as long as two rounds, and saves most of each.
+const MANY_ROUNDS: u32 = 4;
+
+// Whether the plan is known to be tied, as far as that is worth a try.
+fn is_known_tied(alloc: Global, measured: &Measured) -> Result<bool, NoMemory>
+    ensures { IfOk result (λ tied. IsTrue tied → AreTied measured.now.checked.topology.graph.links measured.now.checked.plan.paths measured.now.checked.plan.recipes) }
+{
+    if measured.rounds.len() < MANY_ROUNDS {
+        return Ok(false);
+    }
+    are_tied(
+        alloc,
+        measured.checked.topology.graph(),
+        &measured.checked.plan,
+    )
+}
+
 // Solves the rounds one after the other, adds their rows, and counts those that are refused.
-fn add_rounds(rows: &mut Rows, measured: &Measured, delays: &mut Delays) -> Result<u32, NoMemory>
+fn add_rounds(
+    rows: &mut Rows,
+    measured: &Measured,
+    is_tied: bool,
+    delays: &mut Delays,
+) -> Result<u32, NoMemory>
     requires few { length rows.old.closed ≤ link_limit }
     requires between { rows.old.current ≡ [] }
     requires one_each { length delays.old ≡ length measured.now.checked.topology.graph.links }
+    requires tied { IsTrue is_tied → AreTied measured.now.checked.topology.graph.links measured.now.checked.plan.paths measured.now.checked.plan.recipes }
     ensures { IfOk result (λ refused. (outcomes : List Outcome)
         × AreOutcomes measured.now.checked.topology.graph measured.now.checked.plan measured.now.rounds outcomes
         × AddsRows rows.old rows.new (numbered round_row 0 outcomes)
@@ -130,7 +154,7 @@ fn add_rounds(rows: &mut Rows, measured: &Measured, delays: &mut Delays) -> Resu
     let plan = &measured.checked.plan;
     let mut refused = 0;
     for k in 0..measured.rounds.len() {
-        let verdict = solve_into(graph, plan, measured.rounds.round(k), delays);
+        let verdict = solve_round(graph, plan, is_tied, measured.rounds.round(k), delays);
         add_round(rows, k, verdict, delays)?;
         refused += refusals_of(verdict);
     }
@@ -163,15 +187,16 @@ fn status_of(refused: u32) -> Status
 }
 
 /// Solves rounds over a good plan: the links, the delays of each round or what shows that there are none, and the counts. A round
-/// takes a pass over the terms of all recipes, and one over the links of all paths.
+/// takes a pass over the terms of all recipes, and, unless the plan is known to be tied, one over the links of all paths.
 pub fn solve_rounds(alloc: Global, measured: &Measured) -> Result<Answer, NoMemory>
     ensures { IfOk result (λ a. Solves measured.now.checked.topology measured.now.checked.plan measured.now.rounds a.status a.rows.closed) }
 {
     let checked = &measured.checked;
     let mut delays = Delays::for_plan(alloc, &checked.plan)?;
+    let is_tied = is_known_tied(alloc, measured)?;
     let mut rows = Rows::new(alloc);
     add_links(&mut rows, &checked.topology)?;
-    let refused = add_rounds(&mut rows, measured, &mut delays)?;
+    let refused = add_rounds(&mut rows, measured, is_tied, &mut delays)?;
     add_counts(&mut rows, measured.rounds.len(), refused)?;
     Ok(Answer {
         status: status_of(refused),

@@ -15,7 +15,7 @@ use Rattle.gate_search.specs.declared.search.GateSearch.{GateSearch}
 use Rattle.gate_search.proofs.Trees.{free_in, first_in, order_closed}
 use Rattle.blocks.specs.Sides.{AreSides}
 use Rattle.blocks.specs.Cutting.{Rough}
-use Rattle.blocks.specs.Growing.{IsGrown, IsCutOff}
+use Rattle.blocks.specs.Growing.{IsGrown, HasOneGate}
 use Rattle.blocks.proofs.CutSets.{Cut, rest}
 use Rattle.blocks.proofs.CuttingAt.{kept_joined}
 
@@ -32,7 +32,7 @@ gateless_reaches g w free s x y graph is end joined =
     ]) (subst (λ z. IsTrue (has s.found.order.items z)) end.start (first_in g free s.start s.head s.found graph is.search)))
 
 -- the one node to which gates lead cuts off what the search has reached
-pub cut_off : (g : Network) (root : ℕ) (w : ℕ → Bool) (free : List Bool) (s : GateSearch) (d : ℕ) → IsGraph g → IsCutOff g w free s d → IsGrown g root w (mark_of free) → Cut g w d (has s.found.order.items)
+pub cut_off : (g : Network) (root : ℕ) (w : ℕ → Bool) (free : List Bool) (s : GateSearch) (d : ℕ) → IsGraph g → HasOneGate g w free s d → IsGrown g root w (mark_of free) → Cut g w d (has s.found.order.items)
 cut_off g root w free s d graph off h =
     let K : ℕ → Bool = has s.found.order.items in
     let is_free : Within K (mark_of free) = λ v m. free_in g free s.start s.head s.found graph off.search.search v m in

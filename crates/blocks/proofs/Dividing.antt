@@ -12,8 +12,8 @@ use Rattle.gate_search.specs.declared.search.GateSearch.{GateSearch}
 use Rattle.blocks.specs.declared.block_list.Part.{Part}
 use Rattle.blocks.specs.declared.block_list.Work.{Work}
 use Rattle.blocks.specs.Sides.{AreSides}
-use Rattle.blocks.specs.Growing.{IsGrown, IsCutOff}
-use Rattle.blocks.specs.Working.{todo_sets, found_sets, IsPart, IsPutOff, Working, weight_of}
+use Rattle.blocks.specs.Growing.{IsGrown, HasOneGate}
+use Rattle.blocks.specs.Working.{todo_sets, found_sets, IsUncut, IsPutOff, Working, weight_of}
 use Rattle.blocks.proofs.CutSets.{Cut}
 use Rattle.blocks.proofs.CuttingAt.{cuts_same}
 use Rattle.blocks.proofs.Working.{cutting-same}
@@ -41,7 +41,7 @@ same_hand g S T work same w =
     )
 
 -- what a search that met one gate alone has reached is put off
-pub divided : (g : Network) (root : ℕ) (w left : ℕ → Bool) (free : List Bool) (s : GateSearch) (d : ℕ) (old new : Work) → IsCutOff g w free s d → IsGrown g root w (mark_of free)
+pub divided : (g : Network) (root : ℕ) (w left : ℕ → Bool) (free : List Bool) (s : GateSearch) (d : ℕ) (old new : Work) → HasOneGate g w free s d → IsGrown g root w (mark_of free)
     → IsPutOff g s.found.order.items d old.todo.items new.todo.items → new.found.items ≡ old.found.items → new.cuts.items ≡ set old.cuts.items d true → ((v : ℕ) → left v ≡ minus w (has s.found.order.items) v)
     → Working g (w ∷ []) old → Working g (left ∷ []) new × (weight_of g (left ∷ []) new < weight_of g (w ∷ []) old)
 divided g root w left free s d old new off h put found_is cuts_is left_is work =
@@ -50,7 +50,7 @@ divided g root w left free s d old new off h put found_is cuts_is left_is work =
     let rest = rest_is w left K d g cut left_is in
     let mid : Work = record { todo = old.todo; found = old.found; cuts = new.cuts } in
     let two = cut_in_two g w d K (has put.part.nodes.items) left old mid refl refl cuts_is cut (λ v m. put.nodes v ∙ m) (λ v m. sym (put.nodes v) ∙ m) rest.0 rest.1 work in
-    let part : IsPart g put.part = record { set = put.set; root = put.nodes put.part.root ∙ or_right (K put.part.root) (put.part.root == d) (eq-eqb put.part.root d put.root) } in
+    let part : IsUncut g put.part = record { set = put.set; root = put.nodes put.part.root ∙ or_right (K put.part.root) (put.part.root == d) (eq-eqb put.part.root d put.root) } in
     let last = put_first g left mid new put.part put.pushed found_is refl part two.0 in
     (last.0, omega (arith, two.1, last.1))
 

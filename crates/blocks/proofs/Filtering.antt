@@ -69,31 +69,6 @@ another (x ∷ y ∷ xs) w up h one = elim (cases_eq x w) [
       (y, or_right (x == y) ((y == y) || has xs y) (or_left (y == y) (has xs y) (eq-eqb y y refl)), λ e. omega (arith, rises, same, e)))
 ]
 
--- no marks
-pub no_marks : (n w : ℕ) → mark_of (replicate n false) w ≡ has [] w
-unfolding has
-no_marks n w = elim (cases_lt w n) [ inl l ↦ get_or-replicate n w false false l | inr ge ↦ get_or_past (replicate n false) w false (omega (arith, ge, length-replicate n false)) ]
-
--- none has one
-pub never_marked : (n w : ℕ) → mark_of (replicate n false) w ≡ false
-never_marked n w = elim (cases_lt w n) [ inl l ↦ get_or-replicate n w false false l | inr ge ↦ get_or_past (replicate n false) w false (omega (arith, ge, length-replicate n false)) ]
-
--- marks with the node at the next place of a list
-pub marks_more : (n : ℕ) (xs : List ℕ) (marks : List Bool) (i d x w : ℕ) → i < length xs → x ≡ get_or xs i d → x < length marks
-    → mark_of marks w ≡ has (take i xs) w → mark_of (set marks x true) w ≡ has (take (i + 1) xs) w
-unfolding has
-marks_more n xs marks i d x w l same room before =
-    rw (take_more xs i d l, has-append (take i xs) (get_or xs i d ∷ []) w, sym same) (elim (cases_eq w x) [
-      | inl e ↦ rw (e, get_or-set_same marks x true false room, eq-eqb x x refl) (sym (last (has (take i xs) x)))
-      | inr ne ↦ rw (get_or-set_other marks x w true false ne, before, ne_eqb x w (λ e. ne (sym e))) (none (has (take i xs) w))
-    ])
-  where
-    last : (b : Bool) → (b || (true || false)) ≡ true
-    last b = grind arith
-
-    none : (b : Bool) → b ≡ (b || (false || false))
-    none b = grind arith
-
 -- no marks are taken away
 pub marks_all : (marks : List Bool) (w : ℕ) → mark_of marks w ≡ minus (mark_of marks) (has []) w
 unfolding has

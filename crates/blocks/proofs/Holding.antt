@@ -1,6 +1,6 @@
 -- Nodes on a way between two held nodes may be held.
 use Rattle.std.proofs.Common.{◌≡◌, ◌≢◌, ℕ, ◌+◌, ◌<◌, ◌≤◌, ◌⊎◌, Bool, true, false, List, length, get_or, set, IsTrue, refl, sym, ap, subst, ◌∙◌, inl, inr, arith, get_or-set_same, get_or-set_other}
-use Rattle.std.proofs.lemmas.Bool.{cases_eq, cases_lt, both_ways}
+use Rattle.std.proofs.lemmas.Bool.{cases_eq, cases_lt, cases_Bool, both_ways}
 use Rattle.std.proofs.lemmas.List.{get_or_default}
 use Rattle.tomo_base.specs.Network.{Network, linked, IsGraph}
 use Rattle.tomo_base.specs.Sets.{without, Within}
@@ -9,6 +9,8 @@ use Rattle.tomo_base.specs.Search.{mark_of, entry_at}
 use Rattle.tomo_base.specs.Table.{AreHops}
 use Rattle.tomo_base.specs.declared.graph.Hop.{Hop}
 use Rattle.tomo_base.specs.Parting.{AreJoinedIn}
+use Rattle.tomo_base.specs.Sets.{count}
+use Rattle.tomo_base.proofs.Counts.{count-less}
 use Rattle.tomo_base.proofs.Links.{linked_below, linked_comm}
 use Rattle.tomo_base.proofs.Walks.{Reaches-within, Reaches_comm}
 use Rattle.tomo_base.proofs.Parting.{without-from, joined-trans, joined-step}
@@ -17,10 +19,10 @@ use Rattle.gate_search.specs.Gates.{IsGate}
 use Rattle.gate_search.specs.Trees.{IsRanked}
 use Rattle.gate_search.specs.Stops.{IsGateSearch}
 use Rattle.gate_search.specs.declared.search.GateSearch.{GateSearch}
-use Rattle.gate_search.proofs.Hops.{hop_linked}
+use Rattle.tomo_base.proofs.Rows.{hop_linked}
 use Rattle.gate_search.proofs.Marks.{still_gone}
-use Rattle.gate_search.proofs.Trees.{ranked_at, ranked_free, is_tree, parent_linked, first_in, ranked_in}
-use Rattle.blocks.specs.Growing.{IsGrown, IsWay}
+use Rattle.gate_search.proofs.Trees.{ranked_at, free_in, ranked_free, is_tree, parent_linked, first_in, ranked_in}
+use Rattle.blocks.specs.Growing.{IsGrown, HasTwoGates}
 use Rattle.tomo_base.proofs.Reached.{ranked_below, placed_free, way_up}
 
 -- a node with two ways to held nodes may be held: a link to one, and a walk to another that does not meet that one
@@ -82,6 +84,19 @@ module _ (g : Network) (free₀ : List Bool) (s : GateSearch) (graph : IsGraph g
   pub only_start : (v : ℕ) → IsRanked s.found v → entry_at s.found.rank.items v ≡ 0 → v ≡ s.start
   only_start v r zero = (is_tree g free₀ s.start s.head s.found graph is.search).once v s.start r start_ranked.0 (zero ∙ sym start_ranked.1)
 
+  -- where the way has come to the start, fewer nodes are free
+  pub way_fewer : (v : ℕ) (free : List Bool) → IsRanked s.found v → length free ≡ g.nodes → v ≡ s.start → ((u : ℕ) → mark_of free₀ u ≡ false → mark_of free u ≡ false)
+      → count g.nodes (mark_of (set free v false)) < count g.nodes (mark_of free₀)
+  way_fewer v free ranked size same passed =
+      let node = (ranked_at g free₀ s.start s.head s.found graph is.search v ranked).0 in
+      let room : v < length free = omega (arith, node, size) in
+      let start_free : mark_of free₀ s.start ≡ true = free_in g free₀ s.start s.head s.found graph is.search s.start (first_in g free₀ s.start s.head s.found graph is.search) in
+      count-less g.nodes (mark_of (set free v false)) (mark_of free₀) v node (get_or-set_same free v false false room) (subst (λ z. mark_of free₀ z ≡ true) (sym same) start_free)
+      (λ u l t. elim (cases_Bool (mark_of free₀ u)) [
+        | inl k ↦ k
+        | inr f ↦ absurd (both_ways (mark_of (set free v false) u) (still_gone free v u room (passed u f)) t)
+      ])
+
   -- a node that is not free has no rank
   no_rank : (v : ℕ) → v < g.nodes → mark_of free₀ v ≡ false → g.nodes ≤ entry_at s.found.rank.items v
   no_rank v l out = elim (cases_lt (entry_at s.found.rank.items v) g.nodes) [
@@ -91,7 +106,7 @@ module _ (g : Network) (free₀ : List Bool) (s : GateSearch) (graph : IsGraph g
 
   module _ (root : ℕ) (w : ℕ → Bool) where
     -- at the other gate
-    pub way_begins : (y : ℕ) → (way : IsWay g w free₀ s y) → IsGrown g root w (mark_of free₀) → IsOnWay g root w free₀ s way.first free₀ y
+    pub way_begins : (y : ℕ) → (way : HasTwoGates g w free₀ s y) → IsGrown g root w (mark_of free₀) → IsOnWay g root w free₀ s way.first free₀ y
     way_begins y way h =
         let outer = (linked_below g.nodes g.links y way.second graph way.other_gate.linked).1 in
         record {

@@ -23,7 +23,7 @@ use Rattle.gate_search.proofs.Marks.{mark_below, mark_more}
 use Rattle.blocks.specs.declared.block_list.Part.{Part}
 use Rattle.blocks.specs.declared.block_list.Work.{Work}
 use Rattle.blocks.specs.Cutting.{Each, Ready, Cutting, AreCuts, weight}
-use Rattle.blocks.specs.Working.{todo_sets, found_sets, IsPart, Working, weight_of}
+use Rattle.blocks.specs.Working.{todo_sets, found_sets, IsUncut, Working, weight_of}
 use Rattle.blocks.proofs.SameSets.{contains_map}
 use Rattle.blocks.proofs.SetLists.{each-map}
 use Rattle.blocks.proofs.CutSets.{Block, Cut, rest, cut-count}
@@ -54,7 +54,7 @@ begun g w p graph connected two all root todo_is found_is size bare =
       cutting = rw (todo_is, found_is) (cutting-same g V V (has p.nodes.items) [] [] to from (cutting-start g n V (omega (arith, size_is, two)) firm));
       cuts = rw (todo_is, found_is) (cuts_same g V V (has p.nodes.items) [] [] (mark_of w.cuts.items) to from (cuts_none g V (mark_of w.cuts.items) bare));
       marks = size;
-      parts = rw todo_is (All-push (IsPart g) [] p (λ k d l. absurd (omega (arith, l)))
+      parts = rw todo_is (All-push (IsUncut g) [] p (λ k d l. absurd (omega (arith, l)))
           (record { set = record { ascending = rw all (members_ascend n everything); below = All-from_has (λ v. v < n) p.nodes.items below }; root = rw root (has_all 0 (omega (arith, two))) }));
       found_nodes = rw found_is (λ k d l. absurd (omega (arith, l)));
       few = rw (todo_is, found_is) (omega (arith, count-le n (has p.nodes.items)));
@@ -64,12 +64,12 @@ begun g w p graph connected two all root todo_is found_is size bare =
 
 -- a part is taken from the list
 pub taken : (g : Network) (old new : Work) (p : Part) → old.todo.items ≡ new.todo.items ++ p ∷ [] → new.found.items ≡ old.found.items → new.cuts.items ≡ old.cuts.items → Working g [] old
-    → Working g (has p.nodes.items ∷ []) new × IsPart g p × (weight_of g (has p.nodes.items ∷ []) new ≡ weight_of g [] old)
+    → Working g (has p.nodes.items ∷ []) new × IsUncut g p × (weight_of g (has p.nodes.items ∷ []) new ≡ weight_of g [] old)
 taken g old new p todo_is found_is cuts_is w =
     let n = g.nodes in
     let V : ℕ → Bool = is_node g in
     let same : todo_sets old.todo.items ≡ has p.nodes.items ∷ todo_sets new.todo.items = ap todo_sets todo_is ∙ todo_push new.todo.items p in
-    let parts = All-pop (IsPart g) (new.todo.items ++ p ∷ []) new.todo.items (Present p) refl (rw todo_is at w.parts) in
+    let parts = All-pop (IsUncut g) (new.todo.items ++ p ∷ []) new.todo.items (Present p) refl (rw todo_is at w.parts) in
     let weight_is : weight_of g (has p.nodes.items ∷ []) new ≡ weight_of g [] old = sym (ap (weight n) same) in (
       record {
         graph = w.graph;
@@ -85,7 +85,7 @@ taken g old new p todo_is found_is cuts_is w =
     )
 
 -- the set at hand is put on the list
-pub put_last : (g : Network) (old new : Work) (p : Part) → new.todo.items ≡ old.todo.items ++ p ∷ [] → new.found.items ≡ old.found.items → new.cuts.items ≡ old.cuts.items → IsPart g p → Working g (has p.nodes.items ∷ []) old
+pub put_last : (g : Network) (old new : Work) (p : Part) → new.todo.items ≡ old.todo.items ++ p ∷ [] → new.found.items ≡ old.found.items → new.cuts.items ≡ old.cuts.items → IsUncut g p → Working g (has p.nodes.items ∷ []) old
     → Working g [] new × (weight_of g [] new ≡ weight_of g (has p.nodes.items ∷ []) old)
 put_last g old new p todo_is found_is cuts_is part w =
     let n = g.nodes in
@@ -97,7 +97,7 @@ put_last g old new p todo_is found_is cuts_is part w =
         cutting = rw found_is (subst (λ xs. Cutting g n V xs (found_sets old.found.items)) (sym same) w.cutting);
         cuts = rw (found_is, cuts_is) (subst (λ xs. AreCuts g V xs (found_sets old.found.items) (mark_of old.cuts.items)) (sym same) w.cuts);
         marks = ap length cuts_is ∙ w.marks;
-        parts = rw todo_is (All-push (IsPart g) old.todo.items p w.parts part);
+        parts = rw todo_is (All-push (IsUncut g) old.todo.items p w.parts part);
         found_nodes = rw found_is w.found_nodes;
         few = omega (arith, w.few, weight_is, ap length found_is);
       },
@@ -105,7 +105,7 @@ put_last g old new p todo_is found_is cuts_is part w =
     )
 
 -- the first of two sets at hand is put on the list
-pub put_first : (g : Network) (S : ℕ → Bool) (old new : Work) (p : Part) → new.todo.items ≡ old.todo.items ++ p ∷ [] → new.found.items ≡ old.found.items → new.cuts.items ≡ old.cuts.items → IsPart g p
+pub put_first : (g : Network) (S : ℕ → Bool) (old new : Work) (p : Part) → new.todo.items ≡ old.todo.items ++ p ∷ [] → new.found.items ≡ old.found.items → new.cuts.items ≡ old.cuts.items → IsUncut g p
     → Working g (has p.nodes.items ∷ (S ∷ [])) old → Working g (S ∷ []) new × (weight_of g (S ∷ []) new ≡ weight_of g (has p.nodes.items ∷ (S ∷ [])) old)
 put_first g S old new p todo_is found_is cuts_is part w =
     let n = g.nodes in
@@ -120,7 +120,7 @@ put_first g S old new p todo_is found_is cuts_is part w =
         cuts = rw (found_is, cuts_is) (subst (λ xs. AreCuts g V (S ∷ xs) (found_sets old.found.items) (mark_of old.cuts.items)) (sym same)
             (cuts_swap g V A S (todo_sets old.todo.items) (found_sets old.found.items) (mark_of old.cuts.items) w.cuts));
         marks = ap length cuts_is ∙ w.marks;
-        parts = rw todo_is (All-push (IsPart g) old.todo.items p w.parts part);
+        parts = rw todo_is (All-push (IsUncut g) old.todo.items p w.parts part);
         found_nodes = rw found_is w.found_nodes;
         few = omega (arith, w.few, weight_is, ap length found_is);
       },

@@ -21,7 +21,7 @@ pub record IsGrown (g : Network) (root : ℕ) (w free : ℕ → Bool) : Type 0 w
   pub joined : (c v : ℕ) → c ≢ root → v ≢ c → IsTrue (w v) → free v ≡ false → AreJoinedIn g (without everything c) root v
 
 -- a search from a node with a gate that has come to another node with a gate to another held node
-pub record IsWay (g : Network) (w : ℕ → Bool) (free : List Bool) (s : GateSearch) (y : ℕ) : Type 0 where
+pub record HasTwoGates (g : Network) (w : ℕ → Bool) (free : List Bool) (s : GateSearch) (y : ℕ) : Type 0 where
   pub search : IsGateSearch g free s
   pub ranked : IsRanked s.found y
   pub first : ℕ
@@ -30,13 +30,13 @@ pub record IsWay (g : Network) (w : ℕ → Bool) (free : List Bool) (s : GateSe
   pub other_gate : IsGate g w (mark_of free) y first first second
 
 -- a search from a node with a gate to d that has come to its end, and to no gate to another held node
-pub record IsCutOff (g : Network) (w : ℕ → Bool) (free : List Bool) (s : GateSearch) (d : ℕ) : Type 0 where
+pub record HasOneGate (g : Network) (w : ℕ → Bool) (free : List Bool) (s : GateSearch) (d : ℕ) : Type 0 where
   pub search : IsGateSearch g free s
   pub all : length s.found.order.items ≤ s.head
   pub gate : IsGate g w (mark_of free) s.start g.nodes g.nodes d
   pub passed : ArePassed g w (mark_of free) s d d
 
 -- what a search tells
-abbrev pub IsGrowth : Network → (ℕ → Bool) → List Bool → GateSearch → Growth → Type 0
-IsGrowth g w free s (Way y) = IsWay g w free s y
-IsGrowth g w free s (Cut d) = IsCutOff g w free s d
+abbrev pub TellsGrowth : Network → (ℕ → Bool) → List Bool → GateSearch → Growth → Type 0
+TellsGrowth g w free s (Way y) = HasTwoGates g w free s y
+TellsGrowth g w free s (Cut d) = HasOneGate g w free s d

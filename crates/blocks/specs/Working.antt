@@ -20,7 +20,7 @@ abbrev pub found_sets : List (Vec ℕ Global) → List (ℕ → Bool)
 found_sets found = map (λ (v : Vec ℕ Global). has v.items) (reverse found)
 
 -- a part that is still to be cut: a set of nodes, and one of them
-pub record IsPart (g : Network) (p : Part) : Type 0 where
+pub record IsUncut (g : Network) (p : Part) : Type 0 where
   pub set : IsSetBelow g.nodes p.nodes.items
   pub root : IsTrue (has p.nodes.items p.root)
 
@@ -34,7 +34,7 @@ pub record Working (g : Network) (hand : List (ℕ → Bool)) (work : Work) : Ty
   pub cutting : Cutting g g.nodes (is_node g) (hand ++ todo_sets work.todo.items) (found_sets work.found.items)
   pub cuts : AreCuts g (is_node g) (hand ++ todo_sets work.todo.items) (found_sets work.found.items) (mark_of work.cuts.items)
   pub marks : length work.cuts.items ≡ g.nodes
-  pub parts : All (IsPart g) work.todo.items
+  pub parts : All (IsUncut g) work.todo.items
   pub found_nodes : All (λ v. IsSetBelow g.nodes v.items) work.found.items
   pub few : length work.found.items + weight_of g hand work ≤ 2 * g.nodes
 

@@ -6,16 +6,16 @@ ghost use Rattle.tomo_base.specs.Walks.{IsConnected, IsConnectedIn, everything};
 ghost use Rattle.gate_search.specs.Stops.{IsRoom};
 ghost use Rattle.tomo_base.specs.Blocks.{IsBlock, IsCutVertex};
 ghost use Rattle.tomo_base.specs.SetLists.{IsSetBelow, AreSetsWith, AreAllSets, lists_of};
-ghost use Rattle.blocks.specs.Working.{IsPart, IsPutOff, Working, weight_of};
+ghost use Rattle.blocks.specs.Working.{IsUncut, IsPutOff, Working, weight_of};
 
 use crate::growing::{Growth, begin, hold_way, step};
-use crate::marks::{marked, marks_of, unmark};
+use crate::marks::{marked, unmark};
 use crate::node_lists::ordered_sets;
 use crate::sides::sides_at;
 use gate_search::{GateSearch, take_free};
 use std::alloc::Global;
 use std::marker::Model;
-use tomo_base::{Graph, NoMemory, NodeSet, NodeSets};
+use tomo_base::{Graph, NoMemory, NodeSet, NodeSets, marks_of};
 
 /// The cut vertices and the blocks of a graph.
 #[derive(Drop)]
@@ -101,7 +101,7 @@ fn grow_block(
     work: &mut Work,
 ) -> Result<(), NoMemory>
     requires working { Working g.now (has part.now.nodes.items ∷ []) work.old }
-    requires part { IsPart g.now part.now }
+    requires part { IsUncut g.now part.now }
     requires whole { IsConnectedIn g.now (without (has part.now.nodes.items) part.now.root) }
     requires room { IsRoom g.now.nodes search.old.found }
     ensures working { OnOk result (Working g.now [] work.new) }

@@ -5,7 +5,7 @@ ghost use Rattle.tomo_base.specs.Search.{mark_of};
 ghost use Rattle.tomo_base.specs.Parting.{AreJoinedIn};
 ghost use Rattle.gate_search.specs.Trees.{IsRanked};
 ghost use Rattle.gate_search.specs.Stops.{IsRoom, IsGateSearch};
-ghost use Rattle.blocks.specs.Growing.{IsGrown, IsWay, IsGrowth};
+ghost use Rattle.blocks.specs.Growing.{IsGrown, HasTwoGates, TellsGrowth};
 
 use gate_search::{GateSearch, add_free};
 use std::alloc::{AllocError, Global};
@@ -49,7 +49,7 @@ pub fn step(
     requires node { (x < g.now.nodes) × (mark_of free.now x ≡ true) }
     requires joined { (held : ℕ) × (mark_of free.now held ≡ false) × AreJoinedIn g.now (mark_of nodes.now) x held }
     requires room { IsRoom g.now.nodes search.old.found }
-    ensures { IfOk result (IsGrowth g.now (mark_of nodes.now) free.now search.new) }
+    ensures { IfOk result (TellsGrowth g.now (mark_of nodes.now) free.now search.new) }
 {
     let _count = g.nodes();
     let Some(first) = search.start_at_gate(g, nodes, free, x)? else {
@@ -92,7 +92,7 @@ pub fn hold_way(
     ensures starts { OnOk result (All (λ u. u < g.now.nodes) starts.new.items) }
     ensures fewer { OnOk result (count g.now.nodes (mark_of free.new.items) < count g.now.nodes (mark_of free.old.items)) }
     ensures passed { OnOk result ((v : ℕ) → mark_of free.old.items v ≡ false → mark_of free.new.items v ≡ false) }
-    ensures grown { OnOk result ((root : ℕ) (w : ℕ → Bool) → IsWay g.now w free.old.items search.now y → IsGrown g.now root w (mark_of free.old.items) → IsGrown g.now root w (mark_of free.new.items)) }
+    ensures grown { OnOk result ((root : ℕ) (w : ℕ → Bool) → HasTwoGates g.now w free.old.items search.now y → IsGrown g.now root w (mark_of free.old.items) → IsGrown g.now root w (mark_of free.new.items)) }
 {
     let _count = g.nodes();
     let mut v = y;

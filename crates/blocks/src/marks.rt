@@ -6,19 +6,6 @@ ghost use Rattle.tomo_base.specs.Search.{mark_of};
 use std::alloc::Global;
 use tomo_base::NoMemory;
 
-// One mark for each of `n` nodes: that it is in the list.
-pub fn marks_of(alloc: Global, n: u32, nodes: &[u32]) -> Result<Vec<bool>, NoMemory>
-    requires { All (λ v. v < n) nodes.now }
-    ensures length { IfOk result (λ marks. length marks.items ≡ n) }
-    ensures marks { IfOk result (λ marks. (v : ℕ) → mark_of marks.items v ≡ has nodes.now v) }
-{
-    let mut marks = vec![in alloc; false; n as usize]?;
-    for &v in nodes {
-        marks[v as usize] = true;
-    }
-    Ok(marks)
-}
-
 // The nodes with a mark, ascending.
 pub fn marked(alloc: Global, marks: &[bool]) -> Result<Vec<u32>, NoMemory>
     requires { length marks.now ≤ 10000 }

@@ -1,22 +1,11 @@
 // Lists of nodes as node sets, in lexicographic order.
-ghost use Rattle.std.specs.Prelude.{ℕ, ◌≡◌, ◌<◌, ◌≤◌, ◌^◌, ◌↔◌, List, length, map, All, Contains, IfOk};
+ghost use Rattle.std.specs.Prelude.{ℕ, ◌≡◌, ◌<◌, ◌≤◌, ◌^◌, ◌↔◌, List, length, All, Contains, IfOk};
 ghost use Rattle.std.specs.List.Sorted.{IsStrictlySortedBy, IsStrictlyIncreasing};
 ghost use Rattle.tomo_base.specs.NodeLists.{IsNodeSet};
 ghost use Rattle.tomo_base.specs.SetLists.{set_cmp, lists_of};
 
 use std::alloc::Global;
-use tomo_base::{NoMemory, NodeSet, NodeSets};
-
-// Sorts lists in lexicographic order and keeps equal ones once.
-fn sort_lists(lists: &mut Vec<Vec<u32>>)
-    ensures ascending { IsStrictlySortedBy set_cmp (lists_of lists.new.items) }
-    ensures kept { (q : List ℕ) → Contains (lists_of lists.old.items) q → Contains (lists_of lists.new.items) q }
-    ensures given { (q : List ℕ) → Contains (lists_of lists.new.items) q → Contains (lists_of lists.old.items) q }
-    ensures few { length lists.new.items ≤ length lists.old.items }
-{
-    lists.sort_unstable();
-    lists.dedup();
-}
+use tomo_base::{NoMemory, NodeSet, NodeSets, sort_lists};
 
 // The set of these nodes, which ascend.
 fn set_of(alloc: Global, nodes: &[u32]) -> Result<NodeSet, NoMemory>

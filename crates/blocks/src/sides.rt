@@ -6,9 +6,8 @@ ghost use Rattle.tomo_base.specs.SetLists.{IsSetBelow};
 ghost use Rattle.tomo_base.specs.Walks.{IsConnectedIn};
 ghost use Rattle.blocks.specs.Sides.{AreSides};
 
-use crate::marks::marks_of;
 use std::alloc::Global;
-use tomo_base::{Graph, NoMemory, sweep};
+use tomo_base::{Graph, NoMemory, marks_of, sweep};
 
 // The two sides of a set that a node cuts, each with this node.
 #[derive(Drop)]

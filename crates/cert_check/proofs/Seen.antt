@@ -1,15 +1,14 @@
 -- Pockets that share no node.
-use Rattle.std.proofs.Common.{refl, ◌≡◌, ◌<◌, ◌+◌, ◌==◌, ◌||◌, ◌⊎◌, ℕ, Bool, true, false, List, length, take, get_or, All, IsTrue, sym, ap, subst, ◌∙◌, inl, inr, arith}
+use Rattle.std.proofs.Common.{refl, ◌≡◌, ◌<◌, ◌≤◌, ◌+◌, ◌==◌, ◌||◌, ◌⊎◌, ℕ, Bool, true, false, List, length, take, get_or, All, IsTrue, sym, ap, subst, ◌∙◌, inl, inr, arith}
 use Rattle.std.specs.List.Sorted.{IsStrictlyIncreasing}
 use Rattle.std.proofs.lemmas.List.{get_or-take, length-take}
-use Rattle.std.proofs.lemmas.Bool.{cases_Bool, cases_eq, cases_lt, both_ways, or_cases, or_parts}
+use Rattle.std.proofs.lemmas.Bool.{cases_Bool, cases_eq, both_ways, or_cases, or_parts}
 use Rattle.std.proofs.lemmas.List.Kept.{AllPairs-from_increasing}
-use Rattle.tomo_base.specs.Network.{Network, IsGraph}
+use Rattle.tomo_base.specs.Network.{Network}
+use Rattle.tomo_base.specs.Pockets.{need_of}
 use Rattle.tomo_base.specs.Sets.{has, size, outside}
 use Rattle.tomo_base.proofs.Ascending.{All-has, All-from_has, has-more, same_list, place_in}
-use Rattle.tomo_base.proofs.Counts.{count-same}
 use Rattle.tomo_base.proofs.Members.{count-has}
-use Rattle.tomo_base.proofs.Touching.{outside_below}
 use Rattle.plan_form.specs.Parts.{PlanPocket}
 use Rattle.plan_form.specs.Good.{IsGoodPocket}
 use Rattle.cert_check.specs.Faults.{pocket_at, IsGoodPocketAt}
@@ -26,16 +25,13 @@ pub set_more : (nodes old new : List ℕ) (i d v : ℕ) → IsStrictlyIncreasing
 set_more nodes old new i d v up l at was ascends is = same_list new (take (i + 1) nodes) ascends (taken_ascends nodes (i + 1) up)
     (λ w. is w ∙ has-more (has old) (λ u. false) nodes i d v w l at (ap (λ xs. has xs w) was))
 
--- so many outside neighbours as the set of them has nodes
-pub outside_few : (g : Network) (nodes out : List ℕ) → IsGraph g → IsStrictlyIncreasing out → ((w : ℕ) → has out w ≡ outside g (has nodes) w) → size g (outside g (has nodes)) ≡ length out
-outside_few g nodes out graph up is =
-    sym (count-same g.nodes (has out) (outside g (has nodes)) (λ v l. is v)) ∙ count-has g.nodes out up (All-from_has (λ v. v < g.nodes) out (λ v there. below v there))
-  where
-    below : (v : ℕ) → has out v ≡ true → v < g.nodes
-    below v there = elim (cases_lt v g.nodes) [
-      | inl in_g ↦ in_g
-      | inr past ↦ absurd (both_ways _ (outside_below g (has nodes) v graph past) (sym (is v) ∙ there))
-    ]
+-- nodes that need a monitor have at most two outside neighbours
+pub need_few : (g : Network) (nodes : List ℕ) → 1 ≤ need_of g (has nodes) → size g (outside g (has nodes)) ≤ 2
+need_few g nodes some = omega (arith, some)
+
+-- and nodes with at most two need one
+pub few_need : (g : Network) (nodes : List ℕ) → IsStrictlyIncreasing nodes → All (λ v. v < g.nodes) nodes → 1 ≤ length nodes → size g (outside g (has nodes)) ≤ 2 → 1 ≤ need_of g (has nodes)
+few_need g nodes up below filled few = omega (arith, count-has g.nodes nodes up below, filled, few)
 
 -- the node is forced, or stands in one of the first i pockets
 abbrev pub IsTaken : List ℕ → List PlanPocket → ℕ → ℕ → Type 0

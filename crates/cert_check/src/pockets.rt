@@ -38,11 +38,9 @@ fn is_good_pocket(
         return Ok(false);
     }
     let pocket = node_set(alloc, nodes)?;
-    let outside = pocket.outside(alloc, g)?;
-    if outside.len() > 2 {
-        return Ok(false);
-    }
-    Ok(need(g, &pocket) == need_given)
+    let need = need(g, &pocket);
+    // A set of nodes needs none just where it has more than two outside neighbours.
+    Ok(need > 0 && need == need_given)
 }
 
 // Puts the nodes into the set, and answers whether all are new.

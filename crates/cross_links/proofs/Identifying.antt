@@ -14,7 +14,7 @@ use Rattle.cross_links.specs.CrossRecipe.{IsCrossRecipe}
 use Rattle.cross_links.specs.Joining.{one_term, three_terms, four_terms}
 use Rattle.cross_links.proofs.Tasks.{differ}
 use Rattle.cross_links.proofs.Cases.{second_case, third_case}
-use Rattle.cross_links.proofs.Places.{only_joins, joins_own}
+use Rattle.tomo_base.proofs.Places.{only_joins, joins_own}
 use Rattle.cross_links.proofs.Terms.{by_one, by_three, by_four}
 
 module _ (g : Network) (m : ℕ → Bool) (graph : IsGraph g) (none : NoBadPart g m) where

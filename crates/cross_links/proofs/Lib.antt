@@ -6,7 +6,6 @@ pub mod Ways
 pub mod Arms
 pub mod Second
 pub mod Cases
-pub mod Places
 pub mod Terms
 pub mod Naming
 pub mod Recipes

@@ -21,7 +21,7 @@ use Rattle.cross_links.proofs.Ways.{leads_end, whole_at, end_at, way_at, ways_ap
 use Rattle.cross_links.proofs.Arms.{two_arms, three_ways, goes_on, TwoArms, FourArms}
 use Rattle.cross_links.proofs.Tasks.{differ}
 use Rattle.cross_links.proofs.Cases.{place_of, from_two_flows}
-use Rattle.cross_links.proofs.Places.{only_joins}
+use Rattle.tomo_base.proofs.Places.{only_joins}
 use Rattle.cross_links.proofs.Terms.{paths_three, by_three, paths_four, by_four}
 use Rattle.cross_links.proofs.Naming.{path_short, nodes_short}
 

@@ -17,3 +17,6 @@ pub mod Turning
 pub mod Ordering
 pub mod Starting
 pub mod InEars
+pub mod Founding
+pub mod Ways
+pub mod Putting

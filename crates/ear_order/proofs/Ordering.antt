@@ -135,7 +135,7 @@ order_marks g r t u [] none v = absurd none
 order_marks g r t u (e ∷ es) o v = absorbed (ends_of r t v) (has e v) (in_ears es v) (ends_in r t e o.ear.three o.begins o.ends v) ∙ sym (after_is (with_ear (ends_of r t) e) es v)
 
 -- no link leads from a node to itself
-no_loop : (n : ℕ) (ls : List Link) (a : ℕ) → AreLinks n ls → any_joins ls a a ≡ true → ⊥
+pub no_loop : (n : ℕ) (ls : List Link) (a : ℕ) → AreLinks n ls → any_joins ls a a ≡ true → ⊥
 unfolding any_joins
 no_loop n [] a are h = both_ways false refl h
 no_loop n (l ∷ ls) a are h = elim (or_cases (joins l a a) (any_joins ls a a) h) [
@@ -230,9 +230,3 @@ pub left_in : (o : Ears) → IsOrder o → (g : Network) → o.graph ≡ g → (
 left_in o is g same old size marks v l new =
     subst (λ z. IsLeft z old o.u) same (left_after o is old (size ∙ ap (λ (z : Network). z.nodes) (sym same)) marks v
     (let n : length old ≡ o.graph.nodes = size ∙ ap (λ (z : Network). z.nodes) (sym same) in omega (arith, l, n)) new)
-
-pub push_in : (o : Ears) → IsOrder o → (g : Network) → o.graph ≡ g → (old : List Bool) (e : List ℕ) → length old ≡ g.nodes → ((v : ℕ) → mark_of old v ≡ in_ears o.list v) → (v : ℕ) → v < length old → mark_of old v ≡ false
-    → IsEar g (mark_of old) e → ContinuesWith g o.u (mark_of old) e → IsOrder (record o { list = o.list ++ e ∷ [] })
-push_in o is g same old e size marks v l new ear next =
-    order_push o is old e marks v (let n : length old ≡ o.graph.nodes = size ∙ ap (λ (z : Network). z.nodes) (sym same) in omega (arith, l, n)) new
-    (subst (λ z. IsEar z (mark_of old) e) (sym same) ear) (subst (λ z. ContinuesWith z o.u (mark_of old) e) (sym same) next)

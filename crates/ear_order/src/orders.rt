@@ -1,12 +1,17 @@
 // Ear orders.
-ghost use Rattle.std.specs.Prelude.{◌≡◌, ◌<◌, length, IfOk, OnOk, OnErr, ◌↔◌, slice_index_or, []};
+ghost use Rattle.std.specs.Prelude.{◌≡◌, ◌<◌, ℕ, length, IfOk, OnOk, OnErr, ◌↔◌, slice_index_or, []};
 ghost use Rattle.tomo_base.specs.Cuts.{IsThreeConnected};
-ghost use Rattle.ear_order.specs.Ears.{AreEnds, IsOrder, IsWhole, IsBegun, AddsEar, IsWholeOrder};
+ghost use Rattle.tomo_base.specs.Search.{mark_of};
+ghost use Rattle.ear_order.specs.Ears.{AreEnds, IsEar, with_ear, IsOrder, IsWhole, IsBegun, AddsEar, IsWholeOrder};
+ghost use Rattle.ear_order.specs.Easy.{AreMarks, with_one_ear, IsLonger};
+ghost use Rattle.ear_order.specs.Turns.{ContinuesWith};
 
 use crate::candidates::facing;
-use crate::marks::{first_unmarked, in_some_ear};
+use crate::easy::first_easy;
+use crate::marks::{first_unmarked, in_some_ear, mark};
+use crate::sparing::{add_near_ear, founded};
 use crate::turns::next_ear;
-use std::alloc::Global;
+use std::alloc::{AllocError, Global};
 use std::marker::Model;
 use tomo_base::{Graph, Link, NoMemory};
 
@@ -80,13 +85,37 @@ impl EarOrder {
         ensures order { OnOk result (IsOrder self.new) }
         ensures err { OnErr result (self.new ≡ self.old) }
     {
-        let old = in_some_ear(alloc, g.nodes(), &self.ears)?;
+        let mut old = self.marks(alloc)?;
         let Some(_unmarked) = first_unmarked(&old) else {
             return Ok(Step::Done);
         };
         let ear = next_ear(alloc, g, &old, self.u)?;
-        self.ears.push(ear)?;
+        self.put(&mut old, ear)?;
         Ok(Step::More)
+    }
+
+    // The marks of the nodes that stand in ears.
+    fn marks(&self, alloc: Global) -> Result<Vec<bool>, AllocError>
+        ensures { IfOk result (λ marks. AreMarks self.now marks.items) }
+    {
+        in_some_ear(alloc, self.node_count, &self.ears)
+    }
+
+    // Adds the ear, and marks its nodes. After want of memory the order is as before.
+    fn put(&mut self, old: &mut Vec<bool>, ear: Vec<u32>) -> Result<(), AllocError>
+        requires order { IsOrder self.old }
+        requires marks { AreMarks self.old old.old.items }
+        requires ear { IsEar self.old.graph (mark_of old.old.items) ear.items }
+        requires next { ContinuesWith self.old.graph self.old.u (mark_of old.old.items) ear.items }
+        ensures added { OnOk result (self.new ≡ with_one_ear self.old ear.items) }
+        ensures marks { OnOk result (AreMarks self.new old.new.items) }
+        ensures more { OnOk result ((v : ℕ) → mark_of old.new.items v ≡ with_ear (mark_of old.old.items) ear.items v) }
+        ensures order { OnOk result (IsOrder self.new) }
+        ensures err { OnErr result (self.new ≡ self.old) }
+    {
+        mark(old, &ear, true);
+        self.ears.push(ear)?;
+        Ok(())
     }
 
     /// How many ears there are. It takes no memory.
@@ -106,8 +135,34 @@ impl EarOrder {
     }
 }
 
-/// An ear order of all nodes, one ear after the other, as of Cheriyan and Maheshwari (1988): as many ears as there are nodes at most,
-/// each ear in a few searches a turn, and at most as many turns as nodes.
+// Adds easy ears, one after the other, until no node has one: at first the nodes far from `u` are asked, and then the neighbours of
+// each node that an ear takes. It costs one search of the graph, and a few looks around each node that is asked.
+fn add_easy(ears: &mut EarOrder, alloc: Global, g: &Graph, u: u32) -> Result<(), NoMemory>
+    requires graph { ears.old.graph ≡ g.now }
+    requires third { ears.old.u ≡ u }
+    requires order { IsOrder ears.old }
+    ensures longer { OnOk result (IsLonger ears.old ears.new) }
+    ensures order { OnOk result (IsOrder ears.new) }
+{
+    let mut old = ears.marks(alloc)?;
+    if old[u as usize] {
+        return Ok(());
+    }
+    let tree = founded(alloc, g, &old, u)?;
+    let mut asked = tree.order;
+    let mut gone = old.to_vec(alloc)?;
+    let mut from = 0;
+    while let Some(found) = first_easy(alloc, g, &old, &tree.rank, u, &mut gone, &asked, from)? {
+        from = found.place + 1;
+        add_near_ear(g, &found.ear, &mut asked)?;
+        ears.put(&mut old, found.ear)?;
+    }
+    Ok(())
+}
+
+/// An ear order of all nodes, as of Cheriyan and Maheshwari (1988). Nearly all ears are easy: they are found by a few looks around
+/// their nodes, once a search has given each node that is left a rank. Where no node has an easy ear, one is found by a few searches a
+/// turn, at most as many turns as there are nodes, and the ranks are given anew: a handful of times in networks of a thousand nodes.
 pub fn order(alloc: Global, g: &Graph, r: u32, t: u32, u: u32) -> Result<EarOrder, NoMemory>
     requires three { IsThreeConnected g.now }
     requires ends { AreEnds g.now r t u }
@@ -115,6 +170,7 @@ pub fn order(alloc: Global, g: &Graph, r: u32, t: u32, u: u32) -> Result<EarOrde
 {
     let mut ears = EarOrder::start(alloc, g, r, t, u)?;
     loop {
+        add_easy(&mut ears, alloc, g, u)?;
         match ears.next(alloc, g)? {
             Step::More => {}
             Step::Done => return Ok(ears),

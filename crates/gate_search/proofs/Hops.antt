@@ -1,24 +1,13 @@
--- The hops of a node are its links; a node whose hops are all past has no gate.
+-- A node whose hops are all past has no gate.
 use Rattle.std.proofs.Common.{◌≡◌, ℕ, ◌+◌, ◌<◌, ◌≤◌, ◌⊎◌, Bool, true, false, List, length, get_or, ap, subst, ◌∙◌, arith}
 use Rattle.std.proofs.lemmas.List.{get_or_default}
 use Rattle.std.specs.List.{AllWithin}
 use Rattle.std.proofs.lemmas.List.Elements.{AllWithin-more}
-use Rattle.tomo_base.specs.Network.{Network, linked}
+use Rattle.tomo_base.specs.Network.{Network}
 use Rattle.tomo_base.specs.Table.{AreHops}
 use Rattle.tomo_base.specs.declared.graph.Hop.{Hop}
-use Rattle.tomo_base.proofs.Rows.{any_joins-from, any_joins_gives}
+use Rattle.tomo_base.proofs.Rows.{linked_hop}
 use Rattle.gate_search.specs.Gates.{HasNoGate}
-
--- a hop leads along a link
-pub hop_linked : (g : Network) (v : ℕ) (hops : List Hop) (k : ℕ) (e : Hop) → AreHops g.links v hops → k < length hops → linked g v (get_or hops k e).node ≡ true
-hop_linked g v hops k e are l = any_joins-from g.links (get_or hops k e).link v (get_or hops k e).node (are.sound k e l)
-
--- each link has its hop
-pub linked_hop : (g : Network) (v w : ℕ) (hops : List Hop) → AreHops g.links v hops → linked g v w ≡ true → (k : ℕ) × (k < length hops) × ((e : Hop) → (get_or hops k e).node ≡ w)
-linked_hop g v w hops are l =
-    let number = any_joins_gives g.links v w l in
-    let at = are.complete number.0 w number.1 in
-    (at.0, at.1, λ e. ap (λ (h : Hop). h.node) (get_or_default hops at.0 e (record { node = w; link = number.0 }) at.1 ∙ at.2))
 
 -- a link to this node is no gate
 abbrev pub IsPast : (ℕ → Bool) → (ℕ → Bool) → ℕ → ℕ → ℕ → Type 0

@@ -1,13 +1,13 @@
 // Searches that stop at gates.
 ghost use Rattle.std.specs.Prelude.{◌≡◌, ◌≤◌, ◌<◌, ◌+◌, ◌++◌, [], ◌∷◌, ℕ, Bool, List, length, set, replicate, true, IfOk, OnOk, IfSome, IfNone};
 ghost use Rattle.tomo_base.specs.Sets.{has, Within};
-ghost use Rattle.tomo_base.specs.Search.{mark_of, entry_at, AreRanked, IsSearch};
+ghost use Rattle.tomo_base.specs.Search.{mark_of};
 ghost use Rattle.gate_search.specs.Gates.{IsGateOf};
 ghost use Rattle.gate_search.specs.Stops.{IsRoom, IsGateSearch, ArePassed, IsAtGate, IsGateless};
 
 use crate::gates::{Gate, outer};
-use std::alloc::{AllocError, Global};
-use tomo_base::{Graph, NoMemory, Swept};
+use std::alloc::Global;
+use tomo_base::{Graph, NoMemory, Swept, look, reach};
 
 /// A search from one free node over free nodes, breadth first, as far as it has come. It is begun anew as often as wanted, in the same
 /// room: a new beginning costs what the last search reached.
@@ -19,44 +19,6 @@ pub struct GateSearch {
     pub head: usize,
     /// The nodes that were reached.
     pub found: Swept,
-}
-
-// Puts a node at the end of the order.
-fn reach(node: u32, from: u32, found: &mut Swept) -> Result<(), AllocError>
-    requires few { length found.old.order.items ≤ 10000 }
-    requires parent { node < length found.old.parent.items }
-    requires rank { node < length found.old.rank.items }
-    ensures order { OnOk result (found.new.order.items ≡ found.old.order.items ++ node ∷ []) }
-    ensures parents { OnOk result (found.new.parent.items ≡ set found.old.parent.items node from) }
-    ensures ranks { OnOk result (found.new.rank.items ≡ set found.old.rank.items node (length found.old.order.items)) }
-{
-    let place = found.order.len() as u32;
-    found.order.push(node)?;
-    found.parent[node as usize] = from;
-    found.rank[node as usize] = place;
-    Ok(())
-}
-
-// Reaches the free neighbours of the node at the place `head` of the order.
-fn look(g: &Graph, free: &[bool], head: usize, found: &mut Swept) -> Result<(), AllocError>
-    requires marks { length free.now ≡ g.now.nodes }
-    requires place { head < length found.old.order.items }
-    requires ranks { AreRanked g.now.nodes free.now found.old.order.items found.old.rank.items }
-    requires parents { length found.old.parent.items ≡ g.now.nodes }
-    ensures place { OnOk result (head < length found.new.order.items) }
-    ensures searched { OnOk result ((seeds : List ℕ) → IsSearch g.now free.now seeds head found.old.order.items found.old.parent.items found.old.rank.items →
-        IsSearch g.now free.now seeds (head + 1) found.new.order.items found.new.parent.items found.new.rank.items) }
-    ensures longer { OnOk result (length found.old.order.items ≤ length found.new.order.items) }
-    ensures kept { OnOk result ((k : ℕ) → k < length found.old.order.items → entry_at found.new.order.items k ≡ entry_at found.old.order.items k) }
-{
-    let n = g.nodes();
-    let node = found.order[head];
-    for hop in g.hops(node) {
-        if free[hop.node as usize] && found.rank[hop.node as usize] == n {
-            reach(hop.node, node, found)?;
-        }
-    }
-    Ok(())
 }
 
 // Takes all nodes out of the order.

@@ -1,10 +1,11 @@
 -- The ears of an order one after the other, and one more of them put into the order of the nodes.
 use Rattle.std.proofs.Common.{◌≡◌, ℕ, zero, suc, ◌+◌, ◌-◌, ◌<◌, ◌≤◌, List, [], ◌∷◌, ◌++◌, length, get_or, take, drop, reverse, Bool, true, false, ◌||◌, refl, sym, subst, ap, ◌∙◌, inl, inr, arith}
-use Rattle.std.proofs.lemmas.Bool.{or_cases, or_left, or_right, cases_eq}
+use Rattle.std.proofs.lemmas.Bool.{or_cases, or_left, or_right, cases_order}
 use Rattle.std.proofs.lemmas.List.{length-reverse}
 use Rattle.tomo_base.specs.Network.{Network, linked}
 use Rattle.tomo_base.specs.Sets.{has}
 use Rattle.tomo_base.specs.Search.{entry_at}
+use Rattle.tomo_base.proofs.Ascending.{place_in}
 use Rattle.ear_order.specs.Ears.{IsEar, with_ear, AreEarsAfter}
 use Rattle.ear_order.specs.Turns.{between, ContinuesWith, IsEither}
 use Rattle.ear_order.proofs.Places.{EarAt}
@@ -164,20 +165,20 @@ one_more g r t u D old e order wide low high ear low' high' ear' k numbered is_o
         (subst (λ z. (v : ℕ) → between z v ≡ false → ear' v ≡ ear v) e_is ear_kept)
         (subst (λ z. (v : ℕ) → between z v ≡ true → (v ≡ u → ⊥) → (w : ℕ) × (linked g v w ≡ true) × ((D w || between z w) ≡ false)) e_is lead)))
 
--- an ear that is turned where its last node stands before its first
-pub turned_before : (order ear faced : List ℕ) (i j : ℕ) → 1 ≤ length ear → faced ≡ reverse ear → i < j → j < length order → entry_at order i ≡ entry_at ear (length ear - 1) → entry_at order j ≡ entry_at ear 0
-    → StandsBefore order (entry_at faced 0) (entry_at faced (length faced - 1))
-turned_before order ear faced i j long is lt l a b =
+-- where no place before that of x is one of y, another place of y comes after it
+pub stands_first : (order : List ℕ) (i x y : ℕ) → entry_at order i ≡ x → (x ≡ y → ⊥) → ((k : ℕ) → k < i → entry_at order k ≡ y → ⊥) → has order y ≡ true → StandsBefore order x y
+stands_first order i x y at differ none is_in =
+    let j = place_in order y is_in in
+    elim (cases_order i j.0) [
+      | inl same ↦ absurd (differ (sym at ∙ (ap (entry_at order) same ∙ j.2)))
+      | inr other ↦ elim other [ inl later ↦ (i, j.0, later, j.1, at, j.2) | inr earlier ↦ absurd (none j.0 earlier j.2) ]
+    ]
+
+-- an ear that is turned begins with its last node and ends with its first
+pub turned_before : (order ear faced : List ℕ) → 1 ≤ length ear → faced ≡ reverse ear → StandsBefore order (entry_at ear (length ear - 1)) (entry_at ear 0) → StandsBefore order (entry_at faced 0) (entry_at faced (length faced - 1))
+turned_before order ear faced long is before =
     let front : entry_at (reverse ear) 0 ≡ entry_at ear (length ear - 1) = entry_reverse ear 0 long ∙ (let k : length ear - 1 - 0 ≡ length ear - 1 = omega arith in ap (entry_at ear) k) in
     let back : entry_at (reverse ear) (length (reverse ear) - 1) ≡ entry_at ear 0 =
     (let k : length (reverse ear) - 1 ≡ length ear - 1 = omega (arith, length-reverse ear) in ap (entry_at (reverse ear)) k)
     ∙ (entry_reverse ear (length ear - 1) (omega (arith, long)) ∙ (let k : length ear - 1 - (length ear - 1) ≡ 0 = omega arith in ap (entry_at ear) k)) in
-    (i, j, lt, l, a ∙ (sym front ∙ ap (λ z. entry_at z 0) (sym is)), b ∙ (sym back ∙ ap (λ z. entry_at z (length z - 1)) (sym is)))
-
--- and one that is kept
-pub kept_before : (order ear faced : List ℕ) (i j : ℕ) → faced ≡ ear → j ≤ i → i < length order → entry_at order i ≡ entry_at ear (length ear - 1) → entry_at order j ≡ entry_at ear 0
-    → (entry_at ear 0 ≡ entry_at ear (length ear - 1) → ⊥) → StandsBefore order (entry_at faced 0) (entry_at faced (length faced - 1))
-kept_before order ear faced i j is le l a b differ = elim (cases_eq j i) [
-  | inl same ↦ absurd (differ (sym b ∙ (ap (entry_at order) same ∙ a)))
-  | inr other ↦ (j, i, omega (arith, le, other), l, b ∙ ap (λ z. entry_at z 0) (sym is), a ∙ ap (λ z. entry_at z (length z - 1)) (sym is))
-]
+    rw (is, front, back) before

@@ -1,5 +1,5 @@
 // The nodes of ears, put into one order.
-ghost use Rattle.std.specs.Prelude.{◌≡◌, ◌≢◌, ◌<◌, ◌≤◌, ◌+◌, ◌-◌, ℕ, length, suc, All, IfOk, IsTrue, true, false};
+ghost use Rattle.std.specs.Prelude.{◌≡◌, ◌≢◌, ◌⊎◌, ◌<◌, ◌≤◌, ◌+◌, ◌-◌, ℕ, length, suc, All, IfOk, IsTrue, true, false};
 ghost use Rattle.tomo_base.specs.Sets.{has};
 ghost use Rattle.tomo_base.specs.Search.{entry_at};
 ghost use Rattle.tomo_base.specs.Walks.{NoneTwice};
@@ -25,6 +25,21 @@ fn place_of(nodes: &[u32], v: u32) -> usize
     unreachable!()
 }
 
+/// The first place in a list at which one of two nodes stands.
+fn first_place(nodes: &[u32], v: u32, w: u32) -> usize
+    requires { IsTrue (has nodes.now v) }
+    ensures below { result < length nodes.now }
+    ensures place { (entry_at nodes.now result ≡ v) ⊎ (entry_at nodes.now result ≡ w) }
+    ensures first { (k : ℕ) → k < result → (entry_at nodes.now k ≢ v) × (entry_at nodes.now k ≢ w) }
+{
+    for (i, &x) in nodes.iter().enumerate() {
+        if x == v || x == w {
+            return i;
+        }
+    }
+    unreachable!()
+}
+
 /// The ear, turned round where its last node stands before its first in the order.
 fn faced(alloc: Global, order: &[u32], ear: &[u32]) -> Result<Vec<u32>, NoMemory>
     requires some { 1 ≤ length ear.now }
@@ -35,7 +50,8 @@ fn faced(alloc: Global, order: &[u32], ear: &[u32]) -> Result<Vec<u32>, NoMemory
     ensures before { IfOk result (λ e. StandsBefore order.now (entry_at e.items 0) (entry_at e.items (length e.items - 1))) }
 {
     let mut faced = ear.to_vec(alloc)?;
-    if place_of(order, ear[ear.len() - 1]) < place_of(order, ear[0]) {
+    let place = first_place(order, ear[0], ear[ear.len() - 1]);
+    if order[place] != ear[0] {
         faced.reverse();
     }
     Ok(faced)

@@ -31,6 +31,13 @@ even_gain a l none = elim (cases_Bool (a % 2 == l % 2)) [
     refused : {w : Why} → Some w ≡ None → ⊥
     refused e = cc
 
+-- the terms of good recipes name paths
+pub names_paths : (g : Network) (paths : List (List ℕ)) (recipes : List (List Term)) → AreGoodRecipes g paths recipes → (i : ℕ) → All (λ t. t.path < length paths) (get_or recipes i [])
+names_paths g paths recipes good i = elim (cases_lt i (length recipes)) [
+  | inl lt ↦ (good.each i lt).names
+  | inr ge ↦ (λ k d l. let none : length (get_or recipes i []) ≡ 0 = ap (λ ts. length ts) (get_or_past recipes i [] ge) in absurd (omega (arith, l, none)))
+]
+
 module _ (g : Network) (paths : List (List ℕ)) (recipes : List (List Term)) (graph : IsGraph g) (good : AreGoodRecipes g paths recipes) (sums : List ℕ) (all : AllHaveDelays sums recipes) where
   -- what the recipe of the link between two nodes gains and loses
   abbrev gained : ℕ → ℕ → ℕ
@@ -64,17 +71,10 @@ module _ (g : Network) (paths : List (List ℕ)) (recipes : List (List Term)) (g
   along_walk [] walk = refl
   along_walk (x ∷ p) walk = all_steps x p walk
 
-  -- the terms name paths
-  names : (i : ℕ) → All (λ t. t.path < length paths) (get_or recipes i [])
-  names i = elim (cases_lt i (length recipes)) [
-    | inl lt ↦ (good.each i lt).names
-    | inr ge ↦ (λ k d l. let none : length (get_or recipes i []) ≡ 0 = ap (λ ts. length ts) (get_or_past recipes i [] ge) in absurd (omega (arith, l, none)))
-  ]
-
   -- so the halves have the sum that is given for the path
   pub agrees : AreTied g.links paths recipes → (i : ℕ) → i < length paths → IsWalk g (get_or paths i []) → HasSum g paths sums (halves sums recipes) i
   agrees tied i lt walk =
-      let balance = tied_balances (length paths) g.links paths recipes names tied refl i lt (given sums) in
+      let balance = tied_balances (length paths) g.links paths recipes (names_paths g paths recipes good) tied refl i lt (given sums) in
       let steps = along_walk (get_or paths i []) walk in
       omega (arith, balance, steps, weighted_along gain_of (given sums) g.links recipes (get_or paths i []), weighted_along loss_of (given sums) g.links recipes (get_or paths i []))
 

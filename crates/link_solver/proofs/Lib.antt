@@ -1,3 +1,4 @@
 pub mod Solving
 pub mod Filling
+pub mod Tallying
 pub mod Agreeing

@@ -5,7 +5,9 @@ mod answer;
 mod delays;
 pub mod laws;
 mod solve;
+mod tied;
 
 pub use answer::{Answer, Why};
 pub use delays::Delays;
-pub use solve::solve_into;
+pub use solve::{solve_into, solve_round};
+pub use tied::are_tied;

@@ -1,5 +1,5 @@
 // The delays of all links, from the sums along the paths of a plan.
-ghost use Rattle.std.specs.Prelude.{◌≡◌, ◌≤◌, ◌<◌, ◌^◌, ◌+◌, ◌-◌, ◌*◌, ◌/◌, ℕ, [], Some, None, length, All, OnOk, IfOk, IfErr, IfSome, IfNone, slice_index_or};
+ghost use Rattle.std.specs.Prelude.{◌≡◌, ◌≤◌, ◌<◌, ◌^◌, ◌+◌, ◌-◌, ◌*◌, ◌/◌, ℕ, [], Some, None, length, All, OnOk, IfOk, IfErr, IfSome, IfNone, slice_index_or, IsTrue};
 ghost use Rattle.tomo_base.specs.Limits.{summand_limit};
 ghost use Rattle.tomo_base.specs.Sets.{has};
 ghost use Rattle.tomo_base.specs.Recipes.{gain_of, loss_of};
@@ -134,9 +134,29 @@ pub fn solve_into(g: &Graph, p: &Plan, sums: &[u64], out: &mut Delays) -> Answer
     ensures solved { AreTied g.now.links p.now.paths p.now.recipes → AllHaveDelays sums.now p.now.recipes → result ≡ Solved }
     ensures same_length { length out.new ≡ length out.old }
 {
+    solve_round(g, p, false, sums, out)
+}
+
+/// The same answer as that of `solve_into`, where it may be known that the plan is tied: then the paths are not looked at, and the round
+/// takes a pass over the terms of all recipes alone.
+pub fn solve_round(g: &Graph, p: &Plan, is_tied: bool, sums: &[u64], out: &mut Delays) -> Answer
+    requires paths { AreGoodPaths g.now (has p.now.monitors) p.now.paths }
+    requires recipes { AreGoodRecipes g.now p.now.paths p.now.recipes }
+    requires tied { IsTrue is_tied → AreTied g.now.links p.now.paths p.now.recipes }
+    requires sums { length sums.now ≡ length p.now.paths }
+    requires one_each { length out.old ≡ length g.now.links }
+    ensures verdict { AnswersRound g.now p.now.paths p.now.recipes sums.now out.new result }
+    ensures means { Means g.now p.now.paths sums.now out.new result }
+    ensures no_path { AreTied g.now.links p.now.paths p.now.recipes → NamesNoPath result }
+    ensures solved { AreTied g.now.links p.now.paths p.now.recipes → AllHaveDelays sums.now p.now.recipes → result ≡ Solved }
+    ensures same_length { length out.new ≡ length out.old }
+{
     let _nodes = g.nodes();
     if let Err((link, why)) = fill_in(p.recipes(), sums, out) {
         return Answer::Link(link, why);
+    }
+    if is_tied {
+        return Answer::Solved;
     }
     match first_other(g, p.paths(), sums, out.as_slice()) {
         Some(path) => Answer::Path(path),

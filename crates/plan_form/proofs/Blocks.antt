@@ -7,14 +7,14 @@ use Rattle.tomo_base.specs.Sets.{one_if}
 use Rattle.rows.specs.Rows.{Row}
 use Rattle.plan_form.specs.declared.kinds.Kind.{Kind}
 use Rattle.plan_form.specs.declared.kinds.Kind.TheVariants as kinds
-use Rattle.plan_form.specs.Kinds.{kind_of, place, in_turn}
+use Rattle.plan_form.specs.Kinds.{row_kind, place, in_turn}
 use Rattle.plan_form.specs.Reading.{IsRow, counted, last_kind, AreNext}
 use Rattle.plan_form.proofs.Walking.{picked, picked-append, counted-append, counted-push, last_kind-push, AreNext-append}
 
 -- rows of one kind, numbered from i
 abbrev pub Block : ℕ → Kind → ℕ → List Row → Type 0
 Block format k i [] = Unit {0}
-Block format k i (row ∷ rows) = (kind_of format row ≡ Some k) × IsRow k i row × Block format k (i + 1) rows
+Block format k i (row ∷ rows) = (row_kind format row ≡ Some k) × IsRow k i row × Block format k (i + 1) rows
 
 -- they are of no other kind
 counted_block : (format : ℕ) (j k : Kind) (i : ℕ) (rows : List Row) → (place j == place k) ≡ false → Block format j i rows → counted format k rows ≡ 0
@@ -98,7 +98,7 @@ front_block format d k before rows some le lone f block =
     }
 
 -- the plan row alone
-first_front : (format : ℕ) (first : Row) → kind_of format first ≡ Some kinds.Plan → IsRow kinds.Plan 0 first → Front format 1 (first ∷ [])
+first_front : (format : ℕ) (first : Row) → row_kind format first ≡ Some kinds.Plan → IsRow kinds.Plan 0 first → Front format 1 (first ∷ [])
 unfolding counted last_kind
 first_front format first is row = record {
   last = kinds.Plan;

@@ -8,11 +8,11 @@ use Rattle.rows.specs.Rows.{Row, row_bytes, byte_count}
 use Rattle.topology.specs.Names.{row_at}
 use Rattle.plan_form.specs.declared.kinds.Kind.{Kind}
 use Rattle.plan_form.specs.declared.kinds.Kind.TheVariants as kinds
-use Rattle.plan_form.specs.Kinds.{newest_format, oldest_format, kind_of, place, since}
+use Rattle.plan_form.specs.Kinds.{newest_format, oldest_format, row_kind, place, since}
 use Rattle.plan_form.specs.Parts.{PlanParts, IsWellFormed}
 use Rattle.plan_form.specs.PlanRows.{AreRowsOf, IsItem, IsToldIn, end_row, numbered, plan_row, row_of, rows_of_kind, rows_in}
 use Rattle.plan_form.specs.Reading.{IsRow, is_kind, is_newest, counted, last_kind, format_of, AreNext, IsUnended}
-use Rattle.plan_form.specs.Taking.{IsPart, told, told_rows, HasRoom}
+use Rattle.plan_form.specs.Taking.{IsPart, told_items, told_rows, HasRoom}
 use Rattle.plan_form.proofs.Walking.{picked, length-picked, counted-push}
 use Rattle.plan_form.proofs.Numbering.{length-numbered}
 use Rattle.plan_form.proofs.Ordered.{fine_rises, picked-own, same_rows}
@@ -53,7 +53,7 @@ end_rows format (row ∷ next ∷ rows) one block = absurd (omega (arith, one))
 
 -- the row of a format tells the format
 row_tells : (format : ℕ) (rows : List Row) → IsItem kinds.Plan format → format_of (plan_row format ∷ rows) ≡ format
-unfolding kind_of digits
+unfolding row_kind digits
 row_tells format rows (inl e) = rw e refl
 row_tells format rows (inr e) = rw e refl
 
@@ -63,12 +63,12 @@ unfolding picked last_kind
 plan_rows_are [] fine one = absurd (omega (arith, one))
 plan_rows_are (row ∷ rows) fine one =
     let first : fine.0.kind ≡ kinds.Plan = same_place fine.0.kind kinds.Plan (eqb-true (place fine.0.kind) 0 fine.0.in_order) in
-    let kind : kind_of (format_of (row ∷ rows)) row ≡ Some kinds.Plan = fine.0.is_of.is_kind ∙ ap (λ k. Some k) first in
+    let kind : row_kind (format_of (row ∷ rows)) row ≡ Some kinds.Plan = fine.0.is_of.is_kind ∙ ap (λ k. Some k) first in
     let is : IsRow kinds.Plan (counted (format_of (row ∷ rows)) kinds.Plan []) row = subst (λ k. IsRow k (counted (format_of (row ∷ rows)) k []) row) first fine.0.is_row in
     let same : format_of (row ∷ rows) ≡ is.item = ap (λ r. format_of (r ∷ rows)) is.row_is ∙ row_tells is.item rows is.fits in
     alone (format_of (row ∷ rows)) row rows kind one ∙ ap (λ r. r ∷ []) (is.row_is ∙ ap plan_row (sym same))
   where
-    alone : (format : ℕ) (row : Row) (rows : List Row) → kind_of format row ≡ Some kinds.Plan → length (picked format kinds.Plan (row ∷ rows)) ≡ 1 → picked format kinds.Plan (row ∷ rows) ≡ row ∷ []
+    alone : (format : ℕ) (row : Row) (rows : List Row) → row_kind format row ≡ Some kinds.Plan → length (picked format kinds.Plan (row ∷ rows)) ≡ 1 → picked format kinds.Plan (row ∷ rows) ≡ row ∷ []
     alone format row rows kind one = single (picked format kinds.Plan rows) (picked-own format kinds.Plan kinds.Plan row rows kind refl) one
       where
         single : (more : List Row) → picked format kinds.Plan (row ∷ rows) ≡ row ∷ more → length (picked format kinds.Plan (row ∷ rows)) ≡ 1 → picked format kinds.Plan (row ∷ rows) ≡ row ∷ []
@@ -84,8 +84,8 @@ is_told format rows p (inl e) held = inr (e, none kinds.Must (omega arith, omega
     empty [] e = refl
     empty (x ∷ xs) e = absurd (omega (arith, e))
 
-    none : (k : Kind) → IsPart k → nat_le (since k) oldest_format ≡ false → told p k ≡ []
-    none k part late = empty (told p k) (omega (arith, length-numbered (row_of k) 0 (told p k), ap (length {A = Row}) (sym (held k part) ∙ ap (λ f. picked f k rows) e ∙ none_picked oldest_format k rows late)))
+    none : (k : Kind) → IsPart k → nat_le (since k) oldest_format ≡ false → told_items p k ≡ []
+    none k part late = empty (told_items p k) (omega (arith, length-numbered (row_of k) 0 (told_items p k), ap (length {A = Row}) (sym (held k part) ∙ ap (λ f. picked f k rows) e ∙ none_picked oldest_format k rows late)))
 
 module _ (rows : List Row) (last : Option Kind) (p : PlanParts) (w : Walked (format_of rows) rows (length rows) last p) where
   -- all rows were read
@@ -132,7 +132,7 @@ module _ (rows : List Row) (last : Option Kind) (p : PlanParts) (w : Walked (for
 counted-le : (format : ℕ) (k : Kind) (rows : List Row) → counted format k rows ≤ length rows
 unfolding counted
 counted-le format k [] = omega arith
-counted-le format k (row ∷ rows) = elim (cases_Bool (is_kind (kind_of format row) k)) [
+counted-le format k (row ∷ rows) = elim (cases_Bool (is_kind (row_kind format row) k)) [
   | inl e ↦ rw e (omega (arith, counted-le format k rows))
   | inr e ↦ rw e (omega (arith, counted-le format k rows))
 ]
@@ -141,7 +141,7 @@ counted-le format k (row ∷ rows) = elim (cases_Bool (is_kind (kind_of format r
 picked_bytes : (format : ℕ) (k : Kind) (rows : List Row) → byte_count (picked format k rows) ≤ byte_count rows
 unfolding picked
 picked_bytes format k [] = omega arith
-picked_bytes format k (row ∷ rows) = elim (cases_Bool (is_kind (kind_of format row) k)) [
+picked_bytes format k (row ∷ rows) = elim (cases_Bool (is_kind (row_kind format row) k)) [
   | inl e ↦ rw e (omega (arith, picked_bytes format k rows, sum_by-cons row_bytes row rows, sum_by-cons row_bytes row (picked format k rows)))
   | inr e ↦ rw e (omega (arith, picked_bytes format k rows, sum_by-cons row_bytes row rows))
 ]

@@ -10,7 +10,7 @@ use Rattle.plan_form.specs.declared.kinds.Kind.TheVariants as kinds
 use Rattle.plan_form.specs.Kinds.{newest_format, field, is_numbered, place}
 use Rattle.plan_form.specs.Parts.{PlanParts, IsListOf, IsSmall, IsWellFormed}
 use Rattle.plan_form.specs.PlanRows.{Item, IsItem}
-use Rattle.plan_form.specs.Taking.{IsPart, told, AddsItem, Takes}
+use Rattle.plan_form.specs.Taking.{IsPart, told_items, AddsItem, TakesItem}
 use Rattle.plan_form.specs.Values.{Spells}
 use Rattle.plan_form.proofs.KindRows.{Tells, adds_item}
 use Rattle.plan_form.proofs.Taken.{takes_item}
@@ -30,13 +30,13 @@ with_told kinds.Recipe p xs = record p { recipes = xs }
 with_told kinds.End p xs = p
 
 -- it has these items
-told_own : (k : Kind) (p : PlanParts) (xs : List (Item k)) → IsPart k → told (with_told k p xs) k ≡ xs
+told_own : (k : Kind) (p : PlanParts) (xs : List (Item k)) → IsPart k → told_items (with_told k p xs) k ≡ xs
 told_own kinds.Plan p xs part = absurd (omega (arith, part.0))
 told_own kinds.End p xs part = absurd (omega (arith, part.1))
 told_own _ p xs part = refl
 
 -- it has the same items of every other kind
-told_other : (k j : Kind) (p : PlanParts) (xs : List (Item k)) → (place k == place j) ≡ false → told (with_told k p xs) j ≡ told p j
+told_other : (k j : Kind) (p : PlanParts) (xs : List (Item k)) → (place k == place j) ≡ false → told_items (with_told k p xs) j ≡ told_items p j
 told_other kinds.Plan j p xs other = refl
 told_other kinds.End j p xs other = refl
 told_other kinds.Node kinds.Node p xs other = absurd (false≢true (sym other))
@@ -66,13 +66,13 @@ abbrev pub IsToldList : (k : Kind) → List (Item k) → Type 0
 IsToldList k xs = All (IsItem k) xs × (is_numbered k ≡ true → length xs < room_for k)
 
 -- the items of each kind of a plan that can be spelled are such a list
-formed_told : (p : PlanParts) → IsWellFormed p → (k : Kind) → IsPart k → IsToldList k (told p k)
+formed_told : (p : PlanParts) → IsWellFormed p → (k : Kind) → IsPart k → IsToldList k (told_items p k)
 formed_told p w kinds.Plan part = absurd (omega (arith, part.0))
 formed_told p w kinds.Path part = (w.paths.each, λ _. w.paths.few)
 formed_told p w k part = (items_fit newest_format p w (inl refl) k, items_few newest_format p w k)
 
 -- a plan can be spelled where the items of each kind are such a list
-told_formed : (p : PlanParts) → ((k : Kind) → IsPart k → IsToldList k (told p k)) → IsWellFormed p
+told_formed : (p : PlanParts) → ((k : Kind) → IsPart k → IsToldList k (told_items p k)) → IsWellFormed p
 told_formed p each = record {
   names = list kinds.Node (omega arith, omega arith) refl;
   links = list kinds.Link (omega arith, omega arith) refl;
@@ -84,13 +84,13 @@ told_formed p each = record {
   recipes = list kinds.Recipe (omega arith, omega arith) refl;
 }
   where
-    list : (k : Kind) → IsPart k → is_numbered k ≡ true → IsListOf (IsItem k) (room_for k) (told p k)
+    list : (k : Kind) → IsPart k → is_numbered k ≡ true → IsListOf (IsItem k) (room_for k) (told_items p k)
     list k part numbered = record { each = (each k part).0; few = (each k part).1 numbered }
 
 -- a plan that can be spelled is so with another such list of one kind
 pub formed_with : (k : Kind) (p : PlanParts) (xs : List (Item k)) → IsPart k → IsWellFormed p → IsToldList k xs → IsWellFormed (with_told k p xs)
 formed_with k p xs part w is = told_formed (with_told k p xs) (λ j other. elim (cases_Bool (place k == place j)) [
-  | inl b ↦ subst (λ i. IsToldList i (told (with_told k p xs) i)) (same_place k j (eqb-true _ _ b)) (subst (IsToldList k) (sym (told_own k p xs part)) is)
+  | inl b ↦ subst (λ i. IsToldList i (told_items (with_told k p xs) i)) (same_place k j (eqb-true _ _ b)) (subst (IsToldList k) (sym (told_own k p xs part)) is)
   | inr b ↦ subst (IsToldList j) (sym (told_other k j p xs b)) (formed_told p w j other)
 ])
 
@@ -104,19 +104,19 @@ module _ {T : Type 0} (k : Kind) (row : Row) (answer : Result T PlanFault) where
       by (Err f) adds = tt
 
   -- the plan can be spelled after an item was added or refused
-  pub formed_after : IsPart k → (p : PlanParts) (xs : List (Item k)) → IsWellFormed p → OnOk answer (AddsItem k row (told p k) xs) → OnOk answer (length xs < room_for k) → OnErr answer (xs ≡ told p k) → IsWellFormed (with_told k p xs)
+  pub formed_after : IsPart k → (p : PlanParts) (xs : List (Item k)) → IsWellFormed p → OnOk answer (AddsItem k row (told_items p k) xs) → OnOk answer (length xs < room_for k) → OnErr answer (xs ≡ told_items p k) → IsWellFormed (with_told k p xs)
   formed_after part p xs w = by answer
     where
-      by : (a : Result T PlanFault) → OnOk a (AddsItem k row (told p k) xs) → OnOk a (length xs < room_for k) → OnErr a (xs ≡ told p k) → IsWellFormed (with_told k p xs)
-      by (Ok x) adds few kept = formed_with k p xs part w (subst (All (IsItem k)) (sym adds.more) (All-push (IsItem k) (told p k) adds.item (formed_told p w k part).0 adds.fits), λ _. few)
+      by : (a : Result T PlanFault) → OnOk a (AddsItem k row (told_items p k) xs) → OnOk a (length xs < room_for k) → OnErr a (xs ≡ told_items p k) → IsWellFormed (with_told k p xs)
+      by (Ok x) adds few kept = formed_with k p xs part w (subst (All (IsItem k)) (sym adds.more) (All-push (IsItem k) (told_items p k) adds.item (formed_told p w k part).0 adds.fits), λ _. few)
       by (Err f) adds few kept = formed_with k p xs part w (subst (IsToldList k) (sym kept) (formed_told p w k part))
 
   -- the plan takes the row of the item that was added
-  pub takes_after : IsPart k → (p : PlanParts) (xs : List (Item k)) → OnOk answer (AddsItem k row (told p k) xs) → OnOk answer (Takes k row p (with_told k p xs))
+  pub takes_after : IsPart k → (p : PlanParts) (xs : List (Item k)) → OnOk answer (AddsItem k row (told_items p k) xs) → OnOk answer (TakesItem k row p (with_told k p xs))
   takes_after part p xs = by answer
     where
-      by : (a : Result T PlanFault) → OnOk a (AddsItem k row (told p k) xs) → OnOk a (Takes k row p (with_told k p xs))
-      by (Ok x) adds = takes_item k row p (with_told k p xs) (subst (AddsItem k row (told p k)) (sym (told_own k p xs part)) adds) (λ j other. told_other k j p xs other)
+      by : (a : Result T PlanFault) → OnOk a (AddsItem k row (told_items p k) xs) → OnOk a (TakesItem k row p (with_told k p xs))
+      by (Ok x) adds = takes_item k row p (with_told k p xs) (subst (AddsItem k row (told_items p k)) (sym (told_own k p xs part)) adds) (λ j other. told_other k j p xs other)
       by (Err f) adds = tt
 
   -- the node that was added is the item that the row tells

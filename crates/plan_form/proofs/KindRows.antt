@@ -16,7 +16,7 @@ use Rattle.plan_form.specs.Parts.{PlanPocket, IsSmall, IsNodeList, IsTermList}
 use Rattle.plan_form.specs.PlanRows.{Item, IsItem, row_of}
 use Rattle.plan_form.specs.Reading.{IsRow}
 use Rattle.plan_form.specs.Spelling.{numbers_text, terms_text}
-use Rattle.plan_form.specs.Taking.{AddsItem, RefusesNode, RefusesNumber, RefusesRow}
+use Rattle.plan_form.specs.Taking.{AddsItem, RefusesNode, RefusesNumber, RefusesItem}
 use Rattle.plan_form.specs.Values.{Spells}
 use Rattle.plan_form.proofs.Spelled.{is_wide, row_of_one, row_of_two, row_of_three, row_of_four, unspelled}
 use Rattle.plan_form.proofs.Telling.{second_field}
@@ -38,7 +38,7 @@ adds_item k row x old new tells number more = record {
 }
 
 -- with another number, or a misspelled one, it is refused
-pub number_refused : (k : Kind) (row : Row) (x : Item k) (i n : ℕ) (f : PlanFault) → is_numbered k ≡ true → Tells k row x → RefusesNumber i n (field row 1) f → RefusesRow k i n row f
+pub number_refused : (k : Kind) (row : Row) (x : Item k) (i n : ℕ) (f : PlanFault) → is_numbered k ≡ true → Tells k row x → RefusesNumber i n (field row 1) f → RefusesItem k i n row f
 number_refused k row x i n faults.NoMemory numbered tells h = absurd h
 number_refused k row x i n (faults.Record m) numbered tells h = absurd h
 number_refused k row x i n (faults.Number m) numbered tells h = (h.0, λ j is. h.1 j (is.small numbered) (ap (λ r. field r 1) is.row_is ∙ second_field k j is.item numbered))
@@ -51,11 +51,11 @@ number_refused k row x i n (faults.Missing m) numbered tells h = absurd h
 number_refused k row x i n (faults.After m) numbered tells h = absurd h
 
 -- a row of a kind of nodes is refused where its node is
-pub node_refused : {T : Type 0} (k : Kind) (i n : ℕ) (row : Row) (answer : Result T PlanFault) → (Spells IsSmall decimal (field row 1) None → (j : ℕ) → IsRow k j row → ⊥) → IfErr answer (RefusesNode n (field row 1)) → IfErr answer (RefusesRow k i n row)
+pub node_refused : {T : Type 0} (k : Kind) (i n : ℕ) (row : Row) (answer : Result T PlanFault) → (Spells IsSmall decimal (field row 1) None → (j : ℕ) → IsRow k j row → ⊥) → IfErr answer (RefusesNode n (field row 1)) → IfErr answer (RefusesItem k i n row)
 node_refused k i n row (Ok x) none h = tt
 node_refused k i n row (Err f) none h = by f h
   where
-    by : (f : PlanFault) → RefusesNode n (field row 1) f → RefusesRow k i n row f
+    by : (f : PlanFault) → RefusesNode n (field row 1) f → RefusesItem k i n row f
     by faults.NoMemory h = tt
     by (faults.Record m) h = absurd h
     by (faults.Number m) h = (h.0, none h.1)

@@ -4,7 +4,7 @@ use Rattle.std.proofs.lemmas.Bool.{both_ways, cases_order}
 use Rattle.rows.specs.Rows.{Row}
 use Rattle.plan_form.specs.declared.faults.PlanFault.{PlanFault}
 use Rattle.plan_form.specs.declared.faults.PlanFault.TheVariants as faults
-use Rattle.plan_form.specs.Kinds.{kind_of}
+use Rattle.plan_form.specs.Kinds.{row_kind}
 use Rattle.plan_form.specs.Reading.{AreNext, IsRow, is_in_order, FaultAt, Why, Late, Unknown, Misplaced, Misspelled, Misnumbered, IsFirstAt, IsUnended, IsFirstFaultIn}
 use Rattle.plan_form.proofs.Joined.{heads, tails}
 use Rattle.plan_form.proofs.Walking.{next_at, not_both, same_kind, no_kind}
@@ -31,15 +31,15 @@ not_later format before row Late Unknown l hv hw = omega (arith, hv, hw.0)
 not_later format before row Late Misplaced l hv hw = omega (arith, hv, hw.1.open_yet)
 not_later format before row Late Misspelled l hv hw = omega (arith, hv, hw.1.open_yet)
 not_later format before row Late Misnumbered l hv hw = omega (arith, hv, hw.1.open_yet)
-not_later format before row Unknown Misplaced l hv hw = no_kind (kind_of format row) hw.0 hv.1 hw.1.is_kind
-not_later format before row Unknown Misspelled l hv hw = no_kind (kind_of format row) hw.0 hv.1 hw.1.is_kind
-not_later format before row Unknown Misnumbered l hv hw = no_kind (kind_of format row) hw.0 hv.1 hw.1.is_kind
+not_later format before row Unknown Misplaced l hv hw = no_kind (row_kind format row) hw.0 hv.1 hw.1.is_kind
+not_later format before row Unknown Misspelled l hv hw = no_kind (row_kind format row) hw.0 hv.1 hw.1.is_kind
+not_later format before row Unknown Misnumbered l hv hw = no_kind (row_kind format row) hw.0 hv.1 hw.1.is_kind
 not_later format before row Misplaced Misspelled l hv hw =
-    both_ways (is_in_order format before hw.0) (subst (λ k. is_in_order format before k ≡ false) (same_kind (kind_of format row) hv.0 hw.0 hv.1.is_kind hw.1.is_kind) hv.2) hw.2
+    both_ways (is_in_order format before hw.0) (subst (λ k. is_in_order format before k ≡ false) (same_kind (row_kind format row) hv.0 hw.0 hv.1.is_kind hw.1.is_kind) hv.2) hw.2
 not_later format before row Misplaced Misnumbered l hv hw =
-    both_ways (is_in_order format before hw.0) (subst (λ k. is_in_order format before k ≡ false) (same_kind (kind_of format row) hv.0 hw.0 hv.1.is_kind hw.1.is_kind) hv.2) hw.2
+    both_ways (is_in_order format before hw.0) (subst (λ k. is_in_order format before k ≡ false) (same_kind (row_kind format row) hv.0 hw.0 hv.1.is_kind hw.1.is_kind) hv.2) hw.2
 not_later format before row Misspelled Misnumbered l hv hw =
-    let e : hw.0 ≡ hv.0 = same_kind (kind_of format row) hw.0 hv.0 hw.1.is_kind hv.1.is_kind in
+    let e : hw.0 ≡ hv.0 = same_kind (row_kind format row) hw.0 hv.0 hw.1.is_kind hv.1.is_kind in
     hv.3 hw.3.0 (subst (λ k. IsRow k hw.3.0 row) e hw.3.1)
 not_later format before row v w l hv hw = absurd (omega (arith, l, last_turn w))
 

@@ -3,7 +3,7 @@ use Rattle.std.proofs.Common.{◌≡◌, ℕ, ◌<◌, ◌≤◌, ◌==◌, true
 use Rattle.std.proofs.lemmas.Bool.{and_parts, cases_Bool, cases_order, eq-eqb, leb-true, ne_eqb}
 use Rattle.rows.specs.Rows.{Row}
 use Rattle.plan_form.specs.declared.kinds.Kind.{Kind}
-use Rattle.plan_form.specs.Kinds.{kind_of, place}
+use Rattle.plan_form.specs.Kinds.{row_kind, place}
 use Rattle.plan_form.specs.Reading.{last_kind, AreNext}
 use Rattle.plan_form.proofs.Joined.{heads, tails}
 use Rattle.plan_form.proofs.Walking.{picked, last_kind-push}
@@ -11,7 +11,7 @@ use Rattle.plan_form.proofs.Walking.{picked, last_kind-push}
 -- each row is of a kind from place d on, and no kind comes after a later one
 abbrev pub Rising : ℕ → ℕ → List Row → Type 0
 Rising format d [] = Unit {0}
-Rising format d (row ∷ rows) = (k : Kind) × (kind_of format row ≡ Some k) × (d ≤ place k) × Rising format (place k) rows
+Rising format d (row ∷ rows) = (k : Kind) × (row_kind format row ≡ Some k) × (d ≤ place k) × Rising format (place k) rows
 
 -- so are rows without a fault
 rises : (format : ℕ) (before rows : List Row) (last : Kind) → last_kind format before ≡ Some last → AreNext format before rows → Rising format (place last) rows
@@ -27,12 +27,12 @@ fine_rises format [] fine = tt
 fine_rises format (row ∷ rows) fine = (fine.0.kind, fine.0.is_of.is_kind, omega arith, rises format (row ∷ []) rows fine.0.kind (last_kind-push format [] row ∙ fine.0.is_of.is_kind) fine.1)
 
 -- a row is picked for its own kind
-pub picked-own : (format : ℕ) (j k : Kind) (row : Row) (rows : List Row) → kind_of format row ≡ Some j → (place j == place k) ≡ true → picked format k (row ∷ rows) ≡ row ∷ picked format k rows
+pub picked-own : (format : ℕ) (j k : Kind) (row : Row) (rows : List Row) → row_kind format row ≡ Some j → (place j == place k) ≡ true → picked format k (row ∷ rows) ≡ row ∷ picked format k rows
 unfolding picked
 picked-own format j k row rows is same = rw (is, same) refl
 
 -- and for no other
-picked-other : (format : ℕ) (j k : Kind) (row : Row) (rows : List Row) → kind_of format row ≡ Some j → (place j == place k) ≡ false → picked format k (row ∷ rows) ≡ picked format k rows
+picked-other : (format : ℕ) (j k : Kind) (row : Row) (rows : List Row) → row_kind format row ≡ Some j → (place j == place k) ≡ false → picked format k (row ∷ rows) ≡ picked format k rows
 unfolding picked
 picked-other format j k row rows is other = rw (is, other) refl
 
@@ -50,7 +50,7 @@ unfolding picked
 picked-nil format k = refl
 
 -- the first row is picked for its kind
-present : (format : ℕ) (row : Row) (rows : List Row) (k : Kind) → kind_of format row ≡ Some k → picked format k (row ∷ rows) ≡ [] → ⊥
+present : (format : ℕ) (row : Row) (rows : List Row) (k : Kind) → row_kind format row ≡ Some k → picked format k (row ∷ rows) ≡ [] → ⊥
 present format row rows k is none = omega (arith, ap (length {A = Row}) (sym (picked-own format k k row rows is (eq-eqb (place k) (place k) refl)) ∙ none))
 
 -- rows in order are equal where the rows of each kind are
@@ -67,7 +67,7 @@ same_rows format d e (x ∷ xs) (y ∷ ys) hx hy same = elim (cases_order (place
   | inr (inr l) ↦ absurd (present format y ys hy.0 hy.1 (sym (same hy.0) ∙ picked_before format hy.0 (place hx.0) (x ∷ xs) l (hx.0, hx.1, omega arith, hx.3)))
 ]
   where
-    rest : (format : ℕ) (i j : Kind) (x y : Row) (xs ys : List Row) (k : Kind) → kind_of format x ≡ Some i → kind_of format y ≡ Some j → place i ≡ place j → picked format k (x ∷ xs) ≡ picked format k (y ∷ ys) → picked format k xs ≡ picked format k ys
+    rest : (format : ℕ) (i j : Kind) (x y : Row) (xs ys : List Row) (k : Kind) → row_kind format x ≡ Some i → row_kind format y ≡ Some j → place i ≡ place j → picked format k (x ∷ xs) ≡ picked format k (y ∷ ys) → picked format k xs ≡ picked format k ys
     rest format i j x y xs ys k hx hy eq h = elim (cases_Bool (place i == place k)) [
       | inl b ↦ tails (sym (picked-own format i k x xs hx b) ∙ (h ∙ picked-own format j k y ys hy (rw (← eq) b)))
       | inr b ↦ sym (picked-other format i k x xs hx b) ∙ (h ∙ picked-other format j k y ys hy (rw (← eq) b))

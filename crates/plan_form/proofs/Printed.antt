@@ -7,7 +7,7 @@ use Rattle.plan_form.specs.declared.faults.PlanFault.{PlanFault}
 use Rattle.plan_form.specs.declared.faults.PlanFault.TheVariants as faults
 use Rattle.plan_form.specs.declared.kinds.Kind.{Kind}
 use Rattle.plan_form.specs.declared.kinds.Kind.TheVariants as kinds
-use Rattle.plan_form.specs.Kinds.{kind_of, is_numbered, since}
+use Rattle.plan_form.specs.Kinds.{row_kind, is_numbered, since}
 use Rattle.plan_form.specs.Laws.{PlanHasNoFault}
 use Rattle.plan_form.specs.Parts.{PlanParts, IsWellFormed}
 use Rattle.plan_form.specs.PlanRows.{Item, IsItem, IsToldIn, items, plan_row, row_of, numbered, rows_of_kind, rows_in}
@@ -65,7 +65,7 @@ no_fault_in format p (faults.After n) w is first = absurd (none_at format (rows_
 
 -- the first row of a plan tells its format
 pub format_told : (format : ℕ) (p : PlanParts) → IsToldIn format p → format_of (rows_in format p) ≡ format
-unfolding numbered kind_of digits
+unfolding numbered row_kind digits
 format_told format p (inl e) = rw e refl
 format_told format p (inr e) = rw e.0 refl
 

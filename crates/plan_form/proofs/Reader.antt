@@ -13,7 +13,7 @@ use Rattle.plan_form.specs.Kinds.{is_numbered, place}
 use Rattle.plan_form.specs.Parts.{PlanParts}
 use Rattle.plan_form.specs.PlanRows.{numbered, row_of}
 use Rattle.plan_form.specs.Reading.{IsRow, is_kind, counted, last_kind, may_follow, IsNext, AreNext, FaultAt, Why, Late, Unknown, Misplaced, Misspelled, Misnumbered, IsFirstAt, IsFirstFaultIn}
-use Rattle.plan_form.specs.Taking.{no_parts, IsPart, told, told_rows, Takes, RefusesRow, IsNextKind, RefusesKind}
+use Rattle.plan_form.specs.Taking.{no_parts, IsPart, told_items, told_rows, TakesItem, RefusesItem, IsNextKind, RefusesKind}
 use Rattle.plan_form.proofs.Numbering.{length-numbered}
 use Rattle.plan_form.proofs.Telling.{bare_row, numbered_part}
 use Rattle.plan_form.proofs.Walking.{picked, length-picked, counted-push, picked-push, last_kind-push, AreNext-push}
@@ -42,15 +42,15 @@ module _ (format : ℕ) (rows : List Row) (r : ℕ) (last : Option Kind) (p : Pl
   one_row_more = take_more rows r [] lt
 
   -- as many rows of a kind as the plan has items of it
-  pub part_counted : (k : Kind) → IsPart k → length (told p k) ≡ counted format k (take r rows)
-  part_counted k part = sym (length-numbered (row_of k) 0 (told p k)) ∙ (sym (ap (length {A = Row}) (w.held k part)) ∙ length-picked format k (take r rows))
+  pub part_counted : (k : Kind) → IsPart k → length (told_items p k) ≡ counted format k (take r rows)
+  part_counted k part = sym (length-numbered (row_of k) 0 (told_items p k)) ∙ (sym (ap (length {A = Row}) (w.held k part)) ∙ length-picked format k (take r rows))
 
   -- the row has the number of its place
-  in_place : (k : Kind) (row : Row) → IsRow k (length (told p k)) row → IsRow k (counted format k (take r rows)) row
+  in_place : (k : Kind) (row : Row) → IsRow k (length (told_items p k)) row → IsRow k (counted format k (take r rows)) row
   in_place k row is = elim (cases_Bool (is_numbered k)) [ inl b ↦ subst (λ n. IsRow k n row) (part_counted k (numbered_part k b)) is | inr b ↦ bare_row k _ _ row b is ]
 
   -- a row with the number of its place has that of the plan's next item
-  out_of_place : (k : Kind) (row : Row) → IsRow k (counted format k (take r rows)) row → IsRow k (length (told p k)) row
+  out_of_place : (k : Kind) (row : Row) → IsRow k (counted format k (take r rows)) row → IsRow k (length (told_items p k)) row
   out_of_place k row is = elim (cases_Bool (is_numbered k)) [ inl b ↦ subst (λ n. IsRow k n row) (sym (part_counted k (numbered_part k b))) is | inr b ↦ bare_row k _ _ row b is ]
 
   -- before the end row there is none
@@ -58,7 +58,7 @@ module _ (format : ℕ) (rows : List Row) (r : ℕ) (last : Option Kind) (p : Pl
   no_end open_yet = w.ended ∙ rw open_yet refl
 
   -- a row of a kind that may come, with its number, follows
-  follows : (k : Kind) (p' : PlanParts) → IsNextKind format last (row_at rows r) k → Takes k (row_at rows r) p p' → IsNext format (take r rows) (row_at rows r)
+  follows : (k : Kind) (p' : PlanParts) → IsNextKind format last (row_at rows r) k → TakesItem k (row_at rows r) p p' → IsNext format (take r rows) (row_at rows r)
   follows k p' next takes = record {
     kind = k;
     is_of = record { open_yet = no_end next.open_yet; is_kind = next.kind };
@@ -75,7 +75,7 @@ module _ (format : ℕ) (rows : List Row) (r : ℕ) (last : Option Kind) (p : Pl
       one (Some j) order = rw (ne_eqb (place k) 0 (λ e. absurd (omega (arith, e, ltb-true 0 (place k) (and_parts _ _ order).0)))) refl
 
   -- one row more
-  pub walk_on : (k : Kind) (p' : PlanParts) → IsNextKind format last (row_at rows r) k → Takes k (row_at rows r) p p' → Walked format rows (r + 1) (Some k) p'
+  pub walk_on : (k : Kind) (p' : PlanParts) → IsNextKind format last (row_at rows r) k → TakesItem k (row_at rows r) p p' → Walked format rows (r + 1) (Some k) p'
   walk_on k p' next takes = record {
     fine = rw one_row_more (AreNext-push format (take r rows) (row_at rows r) w.fine (follows k p' next takes));
     last_is = rw one_row_more (last_kind-push format (take r rows) (row_at rows r) ∙ next.kind);
@@ -109,7 +109,7 @@ module _ (format : ℕ) (rows : List Row) (r : ℕ) (last : Option Kind) (p : Pl
       late e = rw (w.ended, e) (omega arith)
 
   -- the fault of a row of a kind that may come
-  pub row_refused : (k : Kind) (f : PlanFault) → IsNextKind format last (row_at rows r) k → RefusesRow k (length (told p k)) (r + 1) (row_at rows r) f → IsFirstFaultIn format rows f
+  pub row_refused : (k : Kind) (f : PlanFault) → IsNextKind format last (row_at rows r) k → RefusesItem k (length (told_items p k)) (r + 1) (row_at rows r) f → IsFirstFaultIn format rows f
   row_refused k faults.NoMemory next h = tt
   row_refused k (faults.Record n) next h = absurd h
   row_refused k (faults.Number n) next h = subst (λ m. IsFirstAt format rows m Misspelled) (sym h.0) (first_fault Misspelled (k, record { open_yet = no_end next.open_yet; is_kind = next.kind }, rw w.last_is next.in_order, h.1))

@@ -9,16 +9,16 @@ use Rattle.plan_form.specs.declared.kinds.Kind.{Kind}
 use Rattle.plan_form.specs.Parts.{IsSmall}
 use Rattle.plan_form.specs.Values.{Spells}
 use Rattle.plan_form.proofs.Texts.{number_injective}
-use Rattle.plan_form.specs.Kinds.{field, since, kind_named, is_record, kind_of}
+use Rattle.plan_form.specs.Kinds.{field, since, kind_named, is_record, row_kind}
 
 -- a row with the fields of the kind that it names is of that kind, where the format has it
-pub kind_is : (format : ℕ) (row : Row) (k : Kind) → kind_named (field row 0) ≡ Some k → (nat_le (since k) format && is_record row k) ≡ true → kind_of format row ≡ Some k
-unfolding kind_of
+pub kind_is : (format : ℕ) (row : Row) (k : Kind) → kind_named (field row 0) ≡ Some k → (nat_le (since k) format && is_record row k) ≡ true → row_kind format row ≡ Some k
+unfolding row_kind
 kind_is format row k named fine = rw (named, fine)
 
 -- a row with other fields, or of a kind that the format has not, is of none
-pub no_record : (format : ℕ) (row : Row) (k : Kind) → kind_named (field row 0) ≡ Some k → (nat_le (since k) format && is_record row k) ≡ false → kind_of format row ≡ None
-unfolding kind_of
+pub no_record : (format : ℕ) (row : Row) (k : Kind) → kind_named (field row 0) ≡ Some k → (nat_le (since k) format && is_record row k) ≡ false → row_kind format row ≡ None
+unfolding row_kind
 no_record format row k named other = rw (named, other)
 
 -- a text that spells a number is the number's text where the numbers are equal
@@ -33,6 +33,6 @@ pub no_number : (text : List ℕ) (m : ℕ) → IsSmall m → Spells IsSmall dec
 no_number text m small none = false_from_ne_true _ (λ b. none m small ((bytes_eq-Decides text (decimal m)).0 b))
 
 -- a row that names no kind is of none
-pub no_name : (format : ℕ) (row : Row) → kind_named (field row 0) ≡ None → kind_of format row ≡ None
-unfolding kind_of
+pub no_name : (format : ℕ) (row : Row) → kind_named (field row 0) ≡ None → row_kind format row ≡ None
+unfolding row_kind
 no_name format row none = rw none

@@ -24,25 +24,13 @@ use Rattle.tomo_base.specs.SetLists.{lists_of}
 nodes_in-sum : (ps : List (List ℕ)) → nodes_in ps ≡ sum_by (length {A = ℕ}) ps
 nodes_in-sum = is_sum_by nodes_in (length {A = ℕ}) refl (λ p ps. refl)
 
--- a sort leaves as many
-nodes_in-permutation : (ps qs : List (List ℕ)) → IsPermutation ps qs → nodes_in qs ≡ nodes_in ps
-nodes_in-permutation ps qs h = nodes_in-sum qs ∙ (sum_by-IsPermutation (length {A = ℕ}) ps qs h ∙ sym (nodes_in-sum ps))
+-- so no more of them are left where no sum over the paths is larger
+pub nodes_few : (old new : List (List ℕ)) → ((w : List ℕ → ℕ) → sum_by w new ≤ sum_by w old) → nodes_in new ≤ nodes_in old
+nodes_few old new sums = omega (arith, sums (length {A = ℕ}), nodes_in-sum old, nodes_in-sum new)
 
--- no more are left when equal paths are kept once
-nodes_in-dedup : (E : List ℕ → List ℕ → Bool) (ps : List (List ℕ)) → nodes_in (dedup E ps) ≤ nodes_in ps
-nodes_in-dedup E [] = omega arith
-nodes_in-dedup E (p ∷ ps) = from p ps
-  where
-    from : (p : List ℕ) (ps : List (List ℕ)) → nodes_in (dedup E (p ∷ ps)) ≤ nodes_in (p ∷ ps)
-    from p [] = omega arith
-    from p (q ∷ ps) = elim (cases_Bool (E q p)) [
-      | inl e ↦ rw e (omega (arith, from p ps))
-      | inr e ↦ rw e (omega (arith, from q ps))
-    ]
-
--- after both
-pub nodes_in-sorted : (E : List ℕ → List ℕ → Bool) (ps qs : List (List ℕ)) → IsPermutation ps qs → nodes_in (dedup E qs) ≤ nodes_in ps
-nodes_in-sorted E ps qs h = omega (arith, nodes_in-permutation ps qs h, nodes_in-dedup E qs)
+-- as many lists as vectors
+pub paths_few : (old new : List (Vec ℕ Global)) → length new ≤ length old → length (lists_of new) ≤ length (lists_of old)
+paths_few old new few = omega (arith, few, length-map old (λ (v : Vec ℕ Global). v.items), length-map new (λ (v : Vec ℕ Global). v.items))
 
 -- ---- the place of a path
 

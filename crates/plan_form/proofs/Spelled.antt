@@ -10,10 +10,10 @@ use Rattle.plan_form.specs.declared.faults.PlanFault.{PlanFault}
 use Rattle.plan_form.specs.declared.faults.PlanFault.TheVariants as faults
 use Rattle.plan_form.specs.declared.kinds.Kind.{Kind}
 use Rattle.plan_form.specs.declared.kinds.Kind.TheVariants as kinds
-use Rattle.plan_form.specs.Kinds.{field, place, word, width, since, in_turn, kind_named, filtered, is_record, kind_of}
+use Rattle.plan_form.specs.Kinds.{field, place, word, width, since, in_turn, kind_named, filtered, is_record, row_kind}
 use Rattle.plan_form.specs.PlanRows.{Item, IsItem, row_of}
 use Rattle.plan_form.specs.Reading.{IsRow, is_kind}
-use Rattle.plan_form.specs.Taking.{RefusesRow}
+use Rattle.plan_form.specs.Taking.{RefusesItem}
 use Rattle.plan_form.specs.Values.{Spells}
 use Rattle.plan_form.proofs.Telling.{same_place}
 use Rattle.plan_form.proofs.Walking.{picked}
@@ -27,8 +27,8 @@ found_passes test (y ∷ ys) x e = elim (cases_Bool (test y)) [
 ]
 
 -- a row of a kind has the word and the fields of the kind, and the format has the kind
-pub kind_tells : (format : ℕ) (row : Row) (k : Kind) → kind_of format row ≡ Some k → (field row 0 ≡ word k) × (is_record row k ≡ true) × (nat_le (since k) format ≡ true)
-unfolding kind_of
+pub kind_tells : (format : ℕ) (row : Row) (k : Kind) → row_kind format row ≡ Some k → (field row 0 ≡ word k) × (is_record row k ≡ true) × (nat_le (since k) format ≡ true)
+unfolding row_kind
 kind_tells format row k e = tells (kind_named (field row 0)) refl e
   where
     same : (b : Bool) (j : Kind) → cond b (Some j) None ≡ Some k → (b ≡ true) × (j ≡ k)
@@ -49,9 +49,9 @@ kind_tells format row k e = tells (kind_named (field row 0)) refl e
 pub none_picked : (format : ℕ) (k : Kind) (rows : List Row) → nat_le (since k) format ≡ false → picked format k rows ≡ []
 unfolding picked
 none_picked format k [] late = refl
-none_picked format k (row ∷ rows) late = rw (other (kind_of format row) refl) (none_picked format k rows late)
+none_picked format k (row ∷ rows) late = rw (other (row_kind format row) refl) (none_picked format k rows late)
   where
-    other : (o : Option Kind) → kind_of format row ≡ o → is_kind o k ≡ false
+    other : (o : Option Kind) → row_kind format row ≡ o → is_kind o k ≡ false
     other None e = refl
     other (Some j) e = elim (cases_Bool (place j == place k)) [
       | inl b ↦ absurd (both_ways _ late (subst (λ i. nat_le (since i) format ≡ true) (same_place j k (eqb-true _ _ b)) (kind_tells format row j e).2))
@@ -92,11 +92,11 @@ unspelled k place Fine text part says row none i is =
     none (part is.item) here.0 (ap (λ r. field r place) is.row_is ∙ here.1)
 
 -- what is answered at a row that is misspelled
-pub misspelled : {T : Type 0} (k : Kind) (i n : ℕ) (row : Row) (answer : Result T PlanFault) (fault : PlanFault) → IsErrAnd answer (λ f. f ≡ fault) → fault ≡ faults.Number n → ((j : ℕ) → IsRow k j row → ⊥) → IfErr answer (RefusesRow k i n row)
+pub misspelled : {T : Type 0} (k : Kind) (i n : ℕ) (row : Row) (answer : Result T PlanFault) (fault : PlanFault) → IsErrAnd answer (λ f. f ≡ fault) → fault ≡ faults.Number n → ((j : ℕ) → IsRow k j row → ⊥) → IfErr answer (RefusesItem k i n row)
 misspelled k i n row (Ok x) fault is number none = tt
 misspelled k i n row (Err f) fault is number none = rw (is, number) (refl, none)
 
 -- what is answered at a row of which a number is refused
-pub refused : {T : Type 0} (k : Kind) (i n : ℕ) (row : Row) (answer : Result T PlanFault) (fault : PlanFault) → IsErrAnd answer (λ f. f ≡ fault) → RefusesRow k i n row fault → IfErr answer (RefusesRow k i n row)
+pub refused : {T : Type 0} (k : Kind) (i n : ℕ) (row : Row) (answer : Result T PlanFault) (fault : PlanFault) → IsErrAnd answer (λ f. f ≡ fault) → RefusesItem k i n row fault → IfErr answer (RefusesItem k i n row)
 refused k i n row (Ok x) fault is refusal = tt
 refused k i n row (Err f) fault is refusal = rw is refusal

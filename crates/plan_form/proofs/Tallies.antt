@@ -40,11 +40,16 @@ sum_at-place (t ∷ ts) (suc i) d up l =
     zero_plus : (z : ℤ) → pos 0 +ℤ z ≡ z
     zero_plus z = omega (arith, ints)
 
+-- terms one after the other
+pub sum_at-append : (ts us : List Term) (k : ℕ) → sum_at (ts ++ us) k ≡ sum_at ts k +ℤ sum_at us k
+unfolding sum_at
+sum_at-append [] us k = omega (arith, ints)
+sum_at-append (t ∷ ts) us k = omega (arith, ints, sum_at-append ts us k)
+
 -- one term more at the end
 sum_at-push : (ts : List Term) (t : Term) (k : ℕ) → sum_at (ts ++ t ∷ []) k ≡ cond (t.path == k) t.coef (pos 0) +ℤ sum_at ts k
 unfolding sum_at
-sum_at-push [] t k = refl
-sum_at-push (u ∷ ts) t k = omega (arith, ints, sum_at-push ts t k)
+sum_at-push ts t k = omega (arith, ints, sum_at-append ts (t ∷ []) k)
 
 -- a coefficient added to a tally
 pub sum_at-set : (xs : List Tally) (p : ℕ) (d : Tally) (c : ℤ) (k : ℕ) → p < length xs

@@ -8,7 +8,7 @@ use Rattle.std.proofs.lemmas.List.Elements.{All-cons}
 use Rattle.rows.specs.Rows.{Row}
 use Rattle.plan_form.specs.declared.kinds.Kind.{Kind}
 use Rattle.plan_form.specs.declared.kinds.Kind.TheVariants as kinds
-use Rattle.plan_form.specs.Kinds.{newest_format, oldest_format, field, is_format, is_numbered, in_turn, kind_of, place, since}
+use Rattle.plan_form.specs.Kinds.{newest_format, oldest_format, field, is_format, is_numbered, in_turn, row_kind, place, since}
 use Rattle.plan_form.specs.Parts.{PlanParts, IsSmall, IsWellFormed}
 use Rattle.plan_form.specs.PlanRows.{Item, IsItem, items, row_of, numbered, rows_of_kind, IsToldIn}
 use Rattle.plan_form.specs.Reading.{IsRow}
@@ -35,8 +35,8 @@ known_format format (inl e) = rw (e, (bytes_eq-Decides (decimal oldest_format) (
 known_format format (inr e) = rw (e, (bytes_eq-Decides (decimal newest_format) (decimal newest_format)).1 refl) (grind arith)
 
 -- the row of an item is of the item's kind, where the format has the kind
-pub kind_of_row : (format : ℕ) (k : Kind) (i : ℕ) (x : Item k) → since k ≤ format → IsItem k x → kind_of format (row_of k i x) ≡ Some k
-unfolding kind_of
+pub kind_of_row : (format : ℕ) (k : Kind) (i : ℕ) (x : Item k) → since k ≤ format → IsItem k x → row_kind format (row_of k i x) ≡ Some k
+unfolding row_kind
 kind_of_row format kinds.Plan i x le fits = rw (le-leb 1 format le, known_format x fits) refl
 kind_of_row format kinds.Node i x le fits = rw (le-leb 1 format le, fits) refl
 kind_of_row format kinds.Must i x le fits = rw (le-leb 2 format le) refl

@@ -1,15 +1,16 @@
 -- Tied plans, told by weights: the recipes along a path gain what they lose, and twice what the path weighs.
-use Rattle.std.proofs.Common.{◌≡◌, ℕ, ◌+◌, ◌*◌, ◌<◌, ◌==◌, true, cond, if◌then◌else◌, List, [], ◌∷◌, ◌++◌, length, get_or, reverse, ℤ, pos, negsuc, ◌+ℤ◌, refl, sym, ap, ◌∙◌, inl, inr, arith, All}
-use Rattle.std.proofs.lemmas.Bool.{cases_Bool, cases_eq, eq-eqb, ne_eqb, or_cases, false≢true, both_ways}
+use Rattle.std.proofs.Common.{◌≡◌, ℕ, ◌+◌, ◌*◌, ◌<◌, ◌==◌, true, cond, if◌then◌else◌, List, [], ◌∷◌, ◌++◌, length, get_or, reverse, ℤ, pos, negsuc, ◌+ℤ◌, refl, sym, ap, ◌∙◌, inl, inr, arith, All, IsTrue}
+use Rattle.std.proofs.lemmas.Bool.{cases_Bool, cases_eq, eq-eqb, eqb-true, ne_eqb, or_cases, false≢true, both_ways}
 use Rattle.std.proofs.lemmas.Int.{ints}
 use Rattle.std.proofs.lemmas.List.Elements.{All-append, All-cons}
 use Rattle.tomo_base.specs.declared.graph.Link.{Link}
-use Rattle.tomo_base.specs.Network.{joins, any_joins}
+use Rattle.tomo_base.specs.Network.{Network, IsGraph, joins, any_joins, linked}
 use Rattle.tomo_base.specs.Table.{JoinsAt}
 use Rattle.tomo_base.specs.Sets.{one_if}
 use Rattle.tomo_base.specs.Identify.{sum_from, sum_over}
 use Rattle.tomo_base.specs.Recipes.{gain_of, loss_of}
 use Rattle.tomo_base.proofs.Links.{joins_comm}
+use Rattle.tomo_base.proofs.Places.{only_joins}
 use Rattle.simple_path.specs.declared.recipe.Term.{Term}
 use Rattle.simple_path.specs.Terms.{weighted_by}
 use Rattle.plan_form.specs.Building.{sum_at, turned}
@@ -33,6 +34,12 @@ place_joins (l ∷ ls) a b h = elim (cases_Bool (joins l a b)) [
   | inl e ↦ rw e (l, refl, e)
   | inr e ↦ (let k = place_joins ls a b (elim (or_cases (joins l a b) (any_joins ls a b) h) [ inl j ↦ absurd (both_ways (joins l a b) e j) | inr j ↦ j ]) in rw e (k.0, k.1, k.2))
 ]
+
+-- in a graph, the number of the link between two nodes is that of the one link that joins them
+pub place_is : (g : Network) (a b i : ℕ) → IsGraph g → JoinsAt g.links i a b → IsTrue (linked g a b) → place_between g.links a b ≡ i
+place_is g a b i graph at joined =
+    let k = place_joins g.links a b joined in
+    eqb-true (place_between g.links a b) i (sym (only_joins g i a b graph at (place_between g.links a b) k.0 k.1) ∙ k.2)
 
 -- so the recipe is that of the link
 pub recipe_comm : (ls : List Link) (recipes : List (List Term)) (a b : ℕ) → recipe_between ls recipes a b ≡ recipe_between ls recipes b a

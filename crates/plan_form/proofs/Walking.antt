@@ -6,26 +6,26 @@ use Rattle.std.proofs.lemmas.Option.{none-some, same_Some}
 use Rattle.tomo_base.specs.Sets.{one_if}
 use Rattle.rows.specs.Rows.{Row}
 use Rattle.plan_form.specs.declared.kinds.Kind.{Kind}
-use Rattle.plan_form.specs.Kinds.{kind_of, place}
+use Rattle.plan_form.specs.Kinds.{row_kind, place}
 use Rattle.plan_form.specs.Reading.{IsRow, is_kind, counted, last_kind, is_in_order, IsNext, AreNext, FaultAt, Why, Late, Unknown, Misplaced, Misspelled, Misnumbered}
 
 -- the rows of one kind, out of all
 unfoldable pub picked : ℕ → Kind → List Row → List Row
 picked format k [] = []
-picked format k (row ∷ rows) = cond (is_kind (kind_of format row) k) (row ∷ []) [] ++ picked format k rows
+picked format k (row ∷ rows) = cond (is_kind (row_kind format row) k) (row ∷ []) [] ++ picked format k rows
 
 -- those of two lists
 pub picked-append : (format : ℕ) (k : Kind) (xs ys : List Row) → picked format k (xs ++ ys) ≡ picked format k xs ++ picked format k ys
 unfolding picked
 picked-append format k [] ys = refl
 picked-append format k (row ∷ xs) ys =
-    ap (λ t. cond (is_kind (kind_of format row) k) (row ∷ []) [] ++ t) (picked-append format k xs ys) ∙ sym (append_assoc (cond (is_kind (kind_of format row) k) (row ∷ []) []) (picked format k xs) (picked format k ys))
+    ap (λ t. cond (is_kind (row_kind format row) k) (row ∷ []) [] ++ t) (picked-append format k xs ys) ∙ sym (append_assoc (cond (is_kind (row_kind format row) k) (row ∷ []) []) (picked format k xs) (picked format k ys))
 
 -- they are as many as are counted
 pub length-picked : (format : ℕ) (k : Kind) (rows : List Row) → length (picked format k rows) ≡ counted format k rows
 unfolding picked counted
 length-picked format k [] = refl
-length-picked format k (row ∷ rows) = elim (cases_Bool (is_kind (kind_of format row) k)) [
+length-picked format k (row ∷ rows) = elim (cases_Bool (is_kind (row_kind format row) k)) [
   | inl e ↦ rw e (omega (arith, length-picked format k rows))
   | inr e ↦ rw e (omega (arith, length-picked format k rows))
 ]
@@ -37,17 +37,17 @@ counted-append format k [] ys = omega arith
 counted-append format k (row ∷ xs) ys = omega (arith, counted-append format k xs ys)
 
 -- a row more of the kind j
-pub counted-push : (format : ℕ) (k j : Kind) (rows : List Row) (row : Row) → kind_of format row ≡ Some j → counted format k (rows ++ row ∷ []) ≡ counted format k rows + one_if (place j == place k)
+pub counted-push : (format : ℕ) (k j : Kind) (rows : List Row) (row : Row) → row_kind format row ≡ Some j → counted format k (rows ++ row ∷ []) ≡ counted format k rows + one_if (place j == place k)
 unfolding counted
 counted-push format k j rows row e = counted-append format k rows (row ∷ []) ∙ rw e (ap (λ n. counted format k rows + n) (add-zero _))
 
 -- a row more, where it is of the kind
-pub picked-push : (format : ℕ) (k j : Kind) (rows : List Row) (row : Row) → kind_of format row ≡ Some j → picked format k (rows ++ row ∷ []) ≡ picked format k rows ++ cond (place j == place k) (row ∷ []) []
+pub picked-push : (format : ℕ) (k j : Kind) (rows : List Row) (row : Row) → row_kind format row ≡ Some j → picked format k (rows ++ row ∷ []) ≡ picked format k rows ++ cond (place j == place k) (row ∷ []) []
 unfolding picked
 picked-push format k j rows row e = picked-append format k rows (row ∷ []) ∙ rw e (ap (λ t. picked format k rows ++ t) (append-nil _))
 
 -- the last row decides
-pub last_kind-push : (format : ℕ) (rows : List Row) (row : Row) → last_kind format (rows ++ row ∷ []) ≡ kind_of format row
+pub last_kind-push : (format : ℕ) (rows : List Row) (row : Row) → last_kind format (rows ++ row ∷ []) ≡ row_kind format row
 unfolding last_kind
 last_kind-push format [] row = refl
 last_kind-push format (x ∷ []) row = refl
@@ -79,13 +79,13 @@ no_kind o k e h = none-some k (sym e ∙ h)
 -- a row that follows has no fault
 pub not_both : (format : ℕ) (before : List Row) (row : Row) (why : Why) → IsNext format before row → FaultAt format before row why → ⊥
 not_both format before row Late next fault = absurd (omega (arith, next.is_of.open_yet, fault))
-not_both format before row Unknown next fault = no_kind (kind_of format row) next.kind fault.1 next.is_of.is_kind
+not_both format before row Unknown next fault = no_kind (row_kind format row) next.kind fault.1 next.is_of.is_kind
 not_both format before row Misplaced next fault =
-    let e : fault.0 ≡ next.kind = same_kind (kind_of format row) fault.0 next.kind fault.1.is_kind next.is_of.is_kind in
+    let e : fault.0 ≡ next.kind = same_kind (row_kind format row) fault.0 next.kind fault.1.is_kind next.is_of.is_kind in
     both_ways (is_in_order format before next.kind) (subst (λ k. is_in_order format before k ≡ false) e fault.2) next.in_order
 not_both format before row Misspelled next fault =
-    let e : fault.0 ≡ next.kind = same_kind (kind_of format row) fault.0 next.kind fault.1.is_kind next.is_of.is_kind in
+    let e : fault.0 ≡ next.kind = same_kind (row_kind format row) fault.0 next.kind fault.1.is_kind next.is_of.is_kind in
     fault.3 (counted format next.kind before) (subst (λ k. IsRow k (counted format next.kind before) row) (sym e) next.is_row)
 not_both format before row Misnumbered next fault =
-    let e : fault.0 ≡ next.kind = same_kind (kind_of format row) fault.0 next.kind fault.1.is_kind next.is_of.is_kind in
+    let e : fault.0 ≡ next.kind = same_kind (row_kind format row) fault.0 next.kind fault.1.is_kind next.is_of.is_kind in
     fault.4 (subst (λ k. IsRow k (counted format k before) row) (sym e) next.is_row)

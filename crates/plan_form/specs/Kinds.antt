@@ -18,37 +18,37 @@ abbrev pub in_turn : List Kind
 in_turn = Plan ∷ Node ∷ Link ∷ Must ∷ Not ∷ Monitor ∷ Pocket ∷ Path ∷ Recipe ∷ End ∷ []
 
 -- the table: the place of each kind, the word that its rows begin with, how many fields they have, whether the second is their number, and the first format that has them
-abbrev pub table : Kind → ℕ × List ℕ × ℕ × Bool × ℕ
-table Plan = (0, codes "plan", 2, false, 1)
-table Node = (1, codes "node", 3, true, 1)
-table Link = (2, codes "link", 4, true, 1)
-table Must = (3, codes "must", 2, false, 2)
-table Not = (4, codes "not", 2, false, 2)
-table Monitor = (5, codes "monitor", 2, false, 1)
-table Pocket = (6, codes "pocket", 4, true, 1)
-table Path = (7, codes "path", 3, true, 1)
-table Recipe = (8, codes "recipe", 3, true, 1)
-table End = (9, codes "end", 1, false, 1)
+abbrev pub kind_table : Kind → ℕ × List ℕ × ℕ × Bool × ℕ
+kind_table Plan = (0, codes "plan", 2, false, 1)
+kind_table Node = (1, codes "node", 3, true, 1)
+kind_table Link = (2, codes "link", 4, true, 1)
+kind_table Must = (3, codes "must", 2, false, 2)
+kind_table Not = (4, codes "not", 2, false, 2)
+kind_table Monitor = (5, codes "monitor", 2, false, 1)
+kind_table Pocket = (6, codes "pocket", 4, true, 1)
+kind_table Path = (7, codes "path", 3, true, 1)
+kind_table Recipe = (8, codes "recipe", 3, true, 1)
+kind_table End = (9, codes "end", 1, false, 1)
 
 -- where rows of the kind stand among those of other kinds
 abbrev pub place : Kind → ℕ
-place k = (table k).0
+place k = (kind_table k).0
 
 -- the word
 abbrev pub word : Kind → List ℕ
-word k = (table k).1
+word k = (kind_table k).1
 
 -- the number of fields
 abbrev pub width : Kind → ℕ
-width k = (table k).2
+width k = (kind_table k).2
 
 -- the second field is the row's number among those of its kind
 abbrev pub is_numbered : Kind → Bool
-is_numbered k = (table k).3
+is_numbered k = (kind_table k).3
 
 -- the first format that has rows of the kind
 abbrev pub since : Kind → ℕ
-since k = (table k).4
+since k = (kind_table k).4
 
 -- the kind that a word names
 abbrev pub kind_named : List ℕ → Option Kind
@@ -74,5 +74,5 @@ filtered test None = None
 filtered test (Some x) = cond (test x) (Some x) None
 
 -- the kind of a row in a format, where the format has it and the row is a record of it
-unfoldable pub kind_of : ℕ → Row → Option Kind
-kind_of format row = filtered (λ k. nat_le (since k) format && is_record row k) (kind_named (field row 0))
+unfoldable pub row_kind : ℕ → Row → Option Kind
+row_kind format row = filtered (λ k. nat_le (since k) format && is_record row k) (kind_named (field row 0))

@@ -6,7 +6,7 @@ use Rattle.plan_form.specs.declared.faults.PlanFault.{PlanFault}
 use Rattle.plan_form.specs.declared.faults.PlanFault.TheVariants as faults
 use Rattle.plan_form.specs.declared.kinds.Kind.{Kind}
 use Rattle.plan_form.specs.declared.kinds.Kind.TheVariants as kinds
-use Rattle.plan_form.specs.Kinds.{newest_format, oldest_format, kind_of, place, is_numbered, field}
+use Rattle.plan_form.specs.Kinds.{newest_format, oldest_format, row_kind, place, is_numbered, field}
 use Rattle.plan_form.specs.Parts.{IsSmall}
 use Rattle.plan_form.specs.PlanRows.{Item, IsItem, row_of}
 
@@ -24,7 +24,7 @@ is_kind (Some j) k = place j == place k
 
 -- the row is the plan row of the newest format
 abbrev pub is_newest : Row → Bool
-is_newest row = is_kind (kind_of newest_format row) kinds.Plan && bytes_eq (field row 1) (decimal newest_format)
+is_newest row = is_kind (row_kind newest_format row) kinds.Plan && bytes_eq (field row 1) (decimal newest_format)
 
 -- the format of rows: the newest where the first is its plan row, else the oldest
 abbrev pub format_of : List Row → ℕ
@@ -34,12 +34,12 @@ format_of (row ∷ rows) = cond (is_newest row) newest_format oldest_format
 -- how many rows are of the kind
 unfoldable pub counted : ℕ → Kind → List Row → ℕ
 counted format k [] = 0
-counted format k (row ∷ rows) = one_if (is_kind (kind_of format row) k) + counted format k rows
+counted format k (row ∷ rows) = one_if (is_kind (row_kind format row) k) + counted format k rows
 
 -- the kind of the last row
 unfoldable pub last_kind : ℕ → List Row → Option Kind
 last_kind format [] = None
-last_kind format (row ∷ []) = kind_of format row
+last_kind format (row ∷ []) = row_kind format row
 last_kind format (row ∷ next ∷ rows) = last_kind format (next ∷ rows)
 
 -- a row of the kind may come after one of the kind `last`: the first row is the plan row, no later one is, and no kind comes after a later one
@@ -54,7 +54,7 @@ is_in_order format before k = may_follow (last_kind format before) k
 -- no end row stood before, and the row is of the kind
 pub record IsOf (format : ℕ) (before : List Row) (row : Row) (k : Kind) : Type 0 where
   pub open_yet : counted format kinds.End before ≡ 0
-  pub is_kind : kind_of format row ≡ Some k
+  pub is_kind : row_kind format row ≡ Some k
 
 -- no fault: the row is of a kind that may stand there, and has the number of its place
 pub record IsNext (format : ℕ) (before : List Row) (row : Row) : Type 0 where
@@ -74,7 +74,7 @@ pub data Why : Type 0 where
 -- the faults of a row after these, each only where none before it in this list applies
 abbrev pub FaultAt : ℕ → List Row → Row → Why → Type 0
 FaultAt format before row Late = 0 < counted format kinds.End before
-FaultAt format before row Unknown = (counted format kinds.End before ≡ 0) × (kind_of format row ≡ None)
+FaultAt format before row Unknown = (counted format kinds.End before ≡ 0) × (row_kind format row ≡ None)
 FaultAt format before row Misplaced = (k : Kind) × IsOf format before row k × (is_in_order format before k ≡ false)
 FaultAt format before row Misspelled = (k : Kind) × IsOf format before row k × (is_in_order format before k ≡ true) × ((i : ℕ) → IsRow k i row → ⊥)
 FaultAt format before row Misnumbered =

@@ -6,7 +6,7 @@ use Rattle.plan_form.specs.declared.faults.PlanFault.{PlanFault}
 use Rattle.plan_form.specs.declared.faults.PlanFault.TheVariants as faults
 use Rattle.plan_form.specs.declared.kinds.Kind.{Kind}
 use Rattle.plan_form.specs.declared.kinds.Kind.TheVariants as kinds
-use Rattle.plan_form.specs.Kinds.{newest_format, field, is_numbered, is_record, kind_of, place, word}
+use Rattle.plan_form.specs.Kinds.{newest_format, field, is_numbered, is_record, row_kind, place, word}
 use Rattle.plan_form.specs.Parts.{PlanParts, IsSmall}
 use Rattle.plan_form.specs.PlanRows.{Item, IsItem, items, row_of, rows_of_kind}
 use Rattle.plan_form.specs.Reading.{IsRow, is_kind, may_follow}
@@ -21,8 +21,8 @@ abbrev pub IsPart : Kind → Type 0
 IsPart k = (0 < place k) × (place k < place kinds.End)
 
 -- the items that are told by rows of such a kind, in whatever format
-abbrev pub told : PlanParts → (k : Kind) → List (Item k)
-told p k = items newest_format p k
+abbrev pub told_items : PlanParts → (k : Kind) → List (Item k)
+told_items p k = items newest_format p k
 
 -- and these rows
 abbrev pub told_rows : PlanParts → Kind → List Row
@@ -44,8 +44,8 @@ pub record AddsItem (k : Kind) (row : Row) (old new : List (Item k)) : Type 0 wh
   pub more : new ≡ old ++ item ∷ []
 
 -- the row is the next of its kind, and the plan has it besides
-pub record Takes (k : Kind) (row : Row) (old new : PlanParts) : Type 0 where
-  pub is_row : IsRow k (length (told old k)) row
+pub record TakesItem (k : Kind) (row : Row) (old new : PlanParts) : Type 0 where
+  pub is_row : IsRow k (length (told_items old k)) row
   pub rows : (j : Kind) → IsPart j → told_rows new j ≡ told_rows old j ++ cond (place k == place j) (row ∷ []) []
 
 -- the number that is spelled so is not the next, which is i: it is misspelled, or another one; n is the row
@@ -61,30 +61,30 @@ RefusesNode n text (faults.Number m) = (m ≡ n) × Spells IsSmall decimal text 
 RefusesNode n text _ = ⊥
 
 -- the row with number n is not the next of its kind, of which there were i: it is misspelled, or has another number
-abbrev pub RefusesRow : Kind → ℕ → ℕ → Row → PlanFault → Type 0
-RefusesRow k i n row faults.NoMemory = ⊤
-RefusesRow k i n row (faults.Record m) = ⊥
-RefusesRow k i n row (faults.Number m) = (m ≡ n) × ((j : ℕ) → IsRow k j row → ⊥)
-RefusesRow k i n row (faults.Order m) = (m ≡ n) × ((j : ℕ) × IsRow k j row) × (IsRow k i row → ⊥)
-RefusesRow k i n row (faults.Missing m) = ⊥
-RefusesRow k i n row (faults.After m) = ⊥
+abbrev pub RefusesItem : Kind → ℕ → ℕ → Row → PlanFault → Type 0
+RefusesItem k i n row faults.NoMemory = ⊤
+RefusesItem k i n row (faults.Record m) = ⊥
+RefusesItem k i n row (faults.Number m) = (m ≡ n) × ((j : ℕ) → IsRow k j row → ⊥)
+RefusesItem k i n row (faults.Order m) = (m ≡ n) × ((j : ℕ) × IsRow k j row) × (IsRow k i row → ⊥)
+RefusesItem k i n row (faults.Missing m) = ⊥
+RefusesItem k i n row (faults.After m) = ⊥
 
 -- the row is of a kind that may come after `last`
 pub record IsNextKind (format : ℕ) (last : Option Kind) (row : Row) (k : Kind) : Type 0 where
   pub open_yet : is_kind last kinds.End ≡ false
-  pub kind : kind_of format row ≡ Some k
+  pub kind : row_kind format row ≡ Some k
   pub in_order : may_follow last k ≡ true
 
 -- the row with number n is of no such kind
 abbrev pub RefusesKind : ℕ → Option Kind → ℕ → Row → PlanFault → Type 0
 RefusesKind format last n row faults.NoMemory = ⊤
-RefusesKind format last n row (faults.Record m) = (m ≡ n) × (is_kind last kinds.End ≡ false) × (kind_of format row ≡ None)
+RefusesKind format last n row (faults.Record m) = (m ≡ n) × (is_kind last kinds.End ≡ false) × (row_kind format row ≡ None)
 RefusesKind format last n row (faults.Number m) = ⊥
-RefusesKind format last n row (faults.Order m) = (m ≡ n) × (is_kind last kinds.End ≡ false) × ((k : Kind) × (kind_of format row ≡ Some k) × (may_follow last k ≡ false))
+RefusesKind format last n row (faults.Order m) = (m ≡ n) × (is_kind last kinds.End ≡ false) × ((k : Kind) × (row_kind format row ≡ Some k) × (may_follow last k ≡ false))
 RefusesKind format last n row (faults.Missing m) = ⊥
 RefusesKind format last n row (faults.After m) = (m ≡ n) × (is_kind last kinds.End ≡ true)
 
 -- there is room for a row more
 pub record HasRoom (row : Row) (p : PlanParts) : Type 0 where
-  pub numbers : (k : Kind) → IsPart k → length (told p k) + 1 < 2 ^ 32
+  pub numbers : (k : Kind) → IsPart k → length (told_items p k) + 1 < 2 ^ 32
   pub bytes : byte_count (told_rows p kinds.Path) + row_bytes row < 2 ^ 31

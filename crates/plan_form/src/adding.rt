@@ -6,7 +6,7 @@ ghost use Rattle.plan_form.specs.Kinds.{field};
 ghost use Rattle.plan_form.specs.Held.{part_of};
 ghost use Rattle.plan_form.specs.Parts.{IsSmall, IsNodeList};
 ghost use Rattle.plan_form.specs.PlanRows.{numbered, path_row};
-ghost use Rattle.plan_form.specs.Taking.{IsRecordAt, AddsItem, RefusesNumber, RefusesNode, RefusesRow};
+ghost use Rattle.plan_form.specs.Taking.{IsRecordAt, AddsItem, RefusesNumber, RefusesNode, RefusesItem};
 ghost use Rattle.plan_form.specs.Values.{Spells};
 
 use crate::faults::PlanFault;
@@ -52,7 +52,7 @@ pub(crate) fn add_name(names: &mut Words, rows: &Rows, row: u32) -> Result<(), P
     requires at { IsRecordAt Kind.Node rows.now.closed row }
     requires room { length names.old + 1 < 2 ^ 32 }
     ensures adds { OnOk result (AddsItem Kind.Node (row_at rows.now.closed row) names.old names.new) }
-    ensures refuses { IfErr result (RefusesRow Kind.Node (length names.old) (row + 1) (row_at rows.now.closed row)) }
+    ensures refuses { IfErr result (RefusesItem Kind.Node (length names.old) (row + 1) (row_at rows.now.closed row)) }
     ensures kept { OnErr result (names.new ≡ names.old) }
 {
     let Some(name) = as_name(rows.at(row, 2)) else {
@@ -68,7 +68,7 @@ pub(crate) fn add_link(links: &mut Vec<Link>, rows: &Rows, row: u32) -> Result<(
     requires at { IsRecordAt Kind.Link rows.now.closed row }
     requires room { length links.old.items + 1 < 2 ^ 32 }
     ensures adds { OnOk result (AddsItem Kind.Link (row_at rows.now.closed row) links.old.items links.new.items) }
-    ensures refuses { IfErr result (RefusesRow Kind.Link (length links.old.items) (row + 1) (row_at rows.now.closed row)) }
+    ensures refuses { IfErr result (RefusesItem Kind.Link (length links.old.items) (row + 1) (row_at rows.now.closed row)) }
     ensures kept { OnErr result (links.new.items ≡ links.old.items) }
 {
     let a = number_in(rows, row, 2)?;
@@ -102,7 +102,7 @@ pub(crate) fn add_pocket(
     requires at { IsRecordAt Kind.Pocket rows.now.closed row }
     requires room { length pockets.old.items + 1 < 2 ^ 32 }
     ensures adds { OnOk result (AddsItem Kind.Pocket (row_at rows.now.closed row) (map part_of pockets.old.items) (map part_of pockets.new.items)) }
-    ensures refuses { IfErr result (RefusesRow Kind.Pocket (length pockets.old.items) (row + 1) (row_at rows.now.closed row)) }
+    ensures refuses { IfErr result (RefusesItem Kind.Pocket (length pockets.old.items) (row + 1) (row_at rows.now.closed row)) }
     ensures kept { OnErr result (pockets.new.items ≡ pockets.old.items) }
 {
     let need = number_in(rows, row, 2)?;
@@ -127,7 +127,7 @@ pub(crate) fn add_path(
     requires bytes { byte_count (numbered path_row 0 paths.old) + row_bytes (row_at rows.now.closed row) < 2 ^ 31 }
     ensures adds { OnOk result (AddsItem Kind.Path (row_at rows.now.closed row) paths.old paths.new) }
     ensures few { OnOk result (length paths.new < 2 ^ 31) }
-    ensures refuses { IfErr result (RefusesRow Kind.Path (length paths.old) (row + 1) (row_at rows.now.closed row)) }
+    ensures refuses { IfErr result (RefusesItem Kind.Path (length paths.old) (row + 1) (row_at rows.now.closed row)) }
     ensures kept { OnErr result (paths.new ≡ paths.old) }
 {
     if !read_nodes(rows.at(row, 2), room)? {
@@ -148,7 +148,7 @@ pub(crate) fn add_recipe(
     requires at { IsRecordAt Kind.Recipe rows.now.closed row }
     requires room { length recipes.old + 1 < 2 ^ 32 }
     ensures adds { OnOk result (AddsItem Kind.Recipe (row_at rows.now.closed row) recipes.old recipes.new) }
-    ensures refuses { IfErr result (RefusesRow Kind.Recipe (length recipes.old) (row + 1) (row_at rows.now.closed row)) }
+    ensures refuses { IfErr result (RefusesItem Kind.Recipe (length recipes.old) (row + 1) (row_at rows.now.closed row)) }
     ensures kept { OnErr result (recipes.new ≡ recipes.old) }
 {
     let mut recipe = Recipe::new(alloc);

@@ -116,7 +116,7 @@ fn is_record(rows: &Rows, row: u32, kind: Kind) -> bool
 pub(crate) fn kind_of(rows: &Rows, row: u32, format: u32) -> Option<Kind>
     requires row { row < length rows.now.closed }
     requires filled { 0 < length (row_at rows.now.closed row) }
-    ensures { result ≡ spec.kind_of format (row_at rows.now.closed row) }
+    ensures { result ≡ spec.row_kind format (row_at rows.now.closed row) }
 {
     let kind = kind_named(rows.at(row, 0))?;
     if kind.since() <= format && is_record(rows, row, kind) {

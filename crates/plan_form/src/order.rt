@@ -1,7 +1,6 @@
 // Paths in order, and their numbers.
 ghost use Rattle.std.specs.Prelude.{ℕ, ◌≤◌, ◌<◌, ◌^◌, List, length, map, Contains, IfOk};
 ghost use Rattle.std.specs.List.Sorted.{IsStrictlySortedBy};
-ghost use Rattle.simple_path.specs.Pools.{nodes_in};
 ghost use Rattle.plan_form.specs.Building.{turned};
 ghost use Rattle.plan_form.specs.Order.{path_cmp};
 ghost use Rattle.plan_form.specs.Steps.{IsNumberOf, AreNumbers, AreOrdered};
@@ -11,25 +10,13 @@ use crate::copies::copy_paths;
 use crate::directions::{turn, turn_all};
 use simple_path::PathPool;
 use std::alloc::Global;
-use tomo_base::NoMemory;
+use tomo_base::{NoMemory, sort_lists};
 
 // Paths in order, and the number of each path of a pool among them.
 #[derive(Drop)]
 pub struct Ordered {
     pub paths: PathPool,
     pub numbers: Vec<u32>,
-}
-
-// Sorts paths in lexicographic order and keeps equal ones once.
-fn sort_paths(paths: &mut Vec<Vec<u32>>)
-    ensures ascending { IsStrictlySortedBy path_cmp (lists_of paths.new.items) }
-    ensures kept { (q : List ℕ) → Contains (lists_of paths.old.items) q → Contains (lists_of paths.new.items) q }
-    ensures given { (q : List ℕ) → Contains (lists_of paths.new.items) q → Contains (lists_of paths.old.items) q }
-    ensures paths { length (lists_of paths.new.items) ≤ length (lists_of paths.old.items) }
-    ensures nodes { nodes_in (lists_of paths.new.items) ≤ nodes_in (lists_of paths.old.items) }
-{
-    paths.sort_unstable();
-    paths.dedup();
 }
 
 // The number of a path of the pool, turned, among the paths in order.
@@ -66,7 +53,7 @@ pub fn order_paths(alloc: Global, pool: &PathPool) -> Result<Ordered, NoMemory>
     ensures few { IfOk result (λ o. length o.paths < 2 ^ 31) }
 {
     let mut sorted = turn_all(alloc, pool)?;
-    sort_paths(&mut sorted);
+    sort_lists(&mut sorted);
     let numbers = number_all(alloc, &sorted, pool)?;
     let paths = copy_paths(alloc, &sorted)?;
     Ok(Ordered { paths, numbers })

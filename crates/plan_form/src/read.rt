@@ -5,7 +5,7 @@ ghost use Rattle.topology.specs.Names.{row_at};
 ghost use Rattle.plan_form.specs.Parts.{IsWellFormed};
 ghost use Rattle.plan_form.specs.PlanRows.{AreRowsOf, row_count};
 ghost use Rattle.plan_form.specs.Reading.{IsFirstPlanFault};
-ghost use Rattle.plan_form.specs.Taking.{no_parts, told, HasRoom, IsRecordAt, Takes, RefusesRow, IsNextKind, RefusesKind};
+ghost use Rattle.plan_form.specs.Taking.{no_parts, told_items, HasRoom, IsRecordAt, TakesItem, RefusesItem, IsNextKind, RefusesKind};
 
 use crate::adding::{add_link, add_name, add_node, add_path, add_pocket, add_recipe};
 use crate::faults::PlanFault;
@@ -65,8 +65,8 @@ impl Plan {
     ) -> Result<(), PlanFault>
         requires at { IsRecordAt kind rows.now.closed row }
         requires room { HasRoom (row_at rows.now.closed row) self.old }
-        ensures takes { OnOk result (Takes kind (row_at rows.now.closed row) self.old self.new) }
-        ensures refuses { IfErr result (RefusesRow kind (length (told self.old kind)) (row + 1) (row_at rows.now.closed row)) }
+        ensures takes { OnOk result (TakesItem kind (row_at rows.now.closed row) self.old self.new) }
+        ensures refuses { IfErr result (RefusesItem kind (length (told_items self.old kind)) (row + 1) (row_at rows.now.closed row)) }
     {
         match kind {
             Kind::Plan => Ok(()),

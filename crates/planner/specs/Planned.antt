@@ -12,7 +12,7 @@ use Rattle.plan_form.specs.Parts.{PlanParts, IsWellFormed}
 use Rattle.plan_form.specs.PlanRows.{row_count}
 use Rattle.plan_form.specs.Good.{IsGoodPlan, pocket_sets}
 use Rattle.plan_form.specs.Tied.{AreTied}
-use Rattle.planner.specs.Measures.{IsNamed}
+use Rattle.planner.specs.Measures.{NamesPath}
 use Rattle.planner.specs.declared.plans.Made.{Made}
 use Rattle.planner.specs.declared.plans.Made.TheVariants.{Plan, Impossible}
 
@@ -25,7 +25,7 @@ pub record IsSoundPlan (given : List (List ℕ)) (g : Network) (p : PlanParts) :
   -- as many paths as links, so at most four for each, and each path is named by a recipe
   pub one_path : length p.paths ≡ length p.links
   pub few_paths : length p.paths ≤ 4 * length p.links
-  pub none_idle : (k : ℕ) → k < length p.paths → IsNamed p.recipes k
+  pub none_idle : (k : ℕ) → k < length p.paths → NamesPath p.recipes k
   -- at most seven paths in each recipe
   pub few_terms : (i : ℕ) → i < length p.recipes → length (slice_index_or p.recipes i []) ≤ 7
   -- along each path the recipes of its links add up to twice the path

@@ -5,7 +5,7 @@ mod graphs;
 mod networks;
 mod plans;
 
-pub use graphs::{graph_with, set_of};
+pub use graphs::{FIVE_LINKED, graph_with, set_of};
 pub use networks::{
     CAMPUS, CHORD, COMPLETE, COMPLETE_WITH_A_LEAF, HEXAGON, PRISM, RING, SHARING_A_NODE,
     SHARING_A_PAIR, STAR, TRIANGLES, TWO_LINKS,

@@ -93,31 +93,28 @@ side_of n p cut a b low high pc = elim (cases_lt cut.first cut.second) [
   | inl lt ↦ (
       let e : a ≡ cut.first = omega (arith, low, lt) in
       let f : b ≡ cut.second = omega (arith, high, lt) in
-      rw (e, f) (record {
-        ordered = lt;
-        first = pc.first;
-        second = pc.second;
-        inside = λ v m. let i = pc.parted.inside v m in let ne = without_two-ne P cut.first cut.second v i in (without_two-in P cut.first cut.second v i, ne.0, ne.1);
-        shut = λ u v m l pv vc vd. pc.parted.shut u v m l (without_two-from P cut.first cut.second v pv vc vd);
-        some = (pc.parted.some.0, pc.parted.some.2);
-        rest = (let i = pc.parted.rest.2 in let ne = without_two-ne P cut.first cut.second pc.parted.rest.0 i in (pc.parted.rest.0, without_two-in P cut.first cut.second pc.parted.rest.0 i, ne.0, ne.1, pc.parted.rest.3));
-      }))
+      rw (e, f) (between cut.first cut.second lt pc.first pc.second (λ v ne. ne) (λ v c d. (c, d))))
   | inr ge ↦ (
       let e : a ≡ cut.second = omega (arith, low, ge) in
       let f : b ≡ cut.first = omega (arith, high, ge) in
-      rw (e, f) (record {
-        ordered = omega (arith, ge, pc.differ);
-        first = pc.second;
-        second = pc.first;
-        inside = λ v m. let i = pc.parted.inside v m in let ne = without_two-ne P cut.first cut.second v i in (without_two-in P cut.first cut.second v i, ne.1, ne.0);
-        shut = λ u v m l pv vd vc. pc.parted.shut u v m l (without_two-from P cut.first cut.second v pv vc vd);
-        some = (pc.parted.some.0, pc.parted.some.2);
-        rest = (let i = pc.parted.rest.2 in let ne = without_two-ne P cut.first cut.second pc.parted.rest.0 i in (pc.parted.rest.0, without_two-in P cut.first cut.second pc.parted.rest.0 i, ne.1, ne.0, pc.parted.rest.3));
-      }))
+      rw (e, f) (between cut.second cut.first (omega (arith, ge, pc.differ)) pc.second pc.first (λ v ne. (ne.1, ne.0)) (λ v d c. (c, d))))
 ]
   where
     P : ℕ → Bool
     P v = has p.nodes v
+
+    -- the two nodes in either order
+    between : (x y : ℕ) → x < y → IsTrue (has p.nodes x) → IsTrue (has p.nodes y) → ((v : ℕ) → (v ≢ cut.first) × (v ≢ cut.second) → (v ≢ x) × (v ≢ y))
+        → ((v : ℕ) → v ≢ x → v ≢ y → (v ≢ cut.first) × (v ≢ cut.second)) → IsSide n p (record { a = x; b = y }) (has cut.side.items)
+    between x y lt first second there back = record {
+      ordered = lt;
+      first = first;
+      second = second;
+      inside = λ v m. let i = pc.parted.inside v m in let ne = there v (without_two-ne P cut.first cut.second v i) in (without_two-in P cut.first cut.second v i, ne.0, ne.1);
+      shut = λ u v m l pv vx vy. let ne = back v vx vy in pc.parted.shut u v m l (without_two-from P cut.first cut.second v pv ne.0 ne.1);
+      some = (pc.parted.some.0, pc.parted.some.2);
+      rest = (let i = pc.parted.rest.2 in let ne = there pc.parted.rest.0 (without_two-ne P cut.first cut.second pc.parted.rest.0 i) in (pc.parted.rest.0, without_two-in P cut.first cut.second pc.parted.rest.0 i, ne.0, ne.1, pc.parted.rest.3));
+    }
 
 -- ---- a marked part
 

@@ -7,11 +7,11 @@ ghost use Rattle.split_tree.specs.Pieces.{net};
 ghost use Rattle.split_tree.specs.Stages.{IsStage, IsHalved, IsPairCut};
 
 use crate::marked::part;
-use crate::marks::{marks_of, marks_with, marks_without};
+use crate::marks::{marks_with, marks_without};
 use crate::piece::Piece;
 use std::alloc::Global;
 use three_conn::{Parting, probe};
-use tomo_base::{Graph, GraphFault, Link, NoMemory};
+use tomo_base::{Graph, GraphFault, Link, NoMemory, marks_of};
 
 // Two nodes, and the two parts into which they cut a piece.
 #[derive(Drop)]

@@ -4,20 +4,7 @@ ghost use Rattle.tomo_base.specs.Sets.{has, minus};
 ghost use Rattle.tomo_base.specs.Search.{mark_of};
 
 use std::alloc::Global;
-use tomo_base::{Link, NoMemory};
-
-// One mark for each of `n` nodes: that it stands in the list.
-pub fn marks_of(alloc: Global, n: u32, nodes: &[u32]) -> Result<Vec<bool>, NoMemory>
-    requires { All (λ v. v < n) nodes.now }
-    ensures length { IfOk result (λ marks. length marks.items ≡ n) }
-    ensures marks { IfOk result (λ marks. (v : ℕ) → mark_of marks.items v ≡ has nodes.now v) }
-{
-    let mut marks = vec![in alloc; false; n as usize]?;
-    for &v in nodes {
-        marks[v as usize] = true;
-    }
-    Ok(marks)
-}
+use tomo_base::{Link, NoMemory, marks_of};
 
 // Marks on the nodes of the list and on both ends of the link.
 pub fn marks_with(alloc: Global, n: u32, nodes: &[u32], pair: Link) -> Result<Vec<bool>, NoMemory>

@@ -9,12 +9,11 @@ ghost use Rattle.split_tree.specs.Trees.{Facts, piece_of, depth_of};
 
 use crate::cutting::cut;
 use crate::marked::marked_links;
-use crate::marks::marks_of;
 use crate::piece::Piece;
 use crate::tree::{SplitTree, Tree, joined};
 use sqlite_items::Items;
 use std::alloc::Global;
-use tomo_base::{Graph, NoMemory, NodeSet};
+use tomo_base::{Graph, NoMemory, NodeSet, marks_of};
 
 // The tree of a piece that no single node cuts.
 fn build(alloc: Global, n: u32, piece: Piece) -> Result<Tree, NoMemory>

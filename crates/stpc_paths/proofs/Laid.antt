@@ -14,17 +14,17 @@ use Rattle.tomo_base.proofs.Rows.{any_joins-from}
 use Rattle.simple_path.specs.declared.recipe.Term.{Term}
 use Rattle.simple_path.specs.Terms.{weighted_by, path_terms}
 use Rattle.simple_path.proofs.Along.{place_below}
-use Rattle.cross_links.proofs.Places.{only_joins}
+use Rattle.tomo_base.proofs.Places.{only_joins}
 use Rattle.indep_trees.specs.Trees.{Climbs}
 use Rattle.plan_form.proofs.Built.{weighted_terms}
 use Rattle.plan_form.specs.Tied.{place_between, recipe_between}
-use Rattle.plan_form.proofs.Tied.{place_joins, recipe_comm, weighted_along, Balances}
+use Rattle.plan_form.proofs.Tied.{place_joins, recipe_comm, weighted_along, Balances, place_is}
 use Rattle.stpc_paths.specs.declared.roots.Root.{Root}
 use Rattle.stpc_paths.specs.Roots.{after, Owns, IsOwned, IsRoot}
 use Rattle.stpc_paths.specs.Names.{own, shared, IsPathName}
 use Rattle.stpc_paths.specs.Terms.{link_terms}
 use Rattle.stpc_paths.proofs.Forests.{Forest, after_below, thrice, trunk_ends, mutual_or_not, owner_up}
-use Rattle.stpc_paths.proofs.Naming.{place_is, name_one, name_joint, root_owned}
+use Rattle.stpc_paths.proofs.Naming.{name_one, name_joint, root_owned}
 use Rattle.stpc_paths.proofs.Joined.{path_by, path_monitor, sum_inside, sum_outside, sum_step}
 use Rattle.stpc_paths.proofs.Weighing.{gain_at, loss_at, ends_weigh, free_weigh, inside_weigh, outside_weigh}
 

@@ -6,7 +6,7 @@ use Rattle.tomo_base.specs.Network.{Network, joins, linked, IsGraph}
 use Rattle.tomo_base.specs.Table.{JoinsAt}
 use Rattle.tomo_base.proofs.Links.{joins_gives}
 use Rattle.simple_path.proofs.Along.{place_below}
-use Rattle.cross_links.proofs.Places.{only_joins}
+use Rattle.tomo_base.proofs.Places.{only_joins}
 use Rattle.indep_trees.specs.Trees.{Climbs}
 use Rattle.plan_form.specs.Tied.{place_between}
 use Rattle.plan_form.proofs.Tied.{place_joins}
@@ -14,12 +14,6 @@ use Rattle.stpc_paths.specs.declared.roots.Root.{Root}
 use Rattle.stpc_paths.specs.Roots.{NameEachOther, Owns, IsOwned, IsRoot}
 use Rattle.stpc_paths.specs.Names.{own, shared, IsPathName}
 use Rattle.stpc_paths.proofs.Forests.{Forest, mutual_or_not, one_tree, one_end}
-
--- in a graph, the number of the link between two nodes is that of the one link that joins them
-pub place_is : (g : Network) (a b i : ℕ) → IsGraph g → JoinsAt g.links i a b → IsTrue (linked g a b) → place_between g.links a b ≡ i
-place_is g a b i graph at joined =
-    let k = place_joins g.links a b joined in
-    eqb-true (place_between g.links a b) i (sym (only_joins g i a b graph at (place_between g.links a b) k.0 k.1) ∙ k.2)
 
 -- two pairs that one link joins are the same, or turned
 pub same_ends : (l : Link) (a b v w : ℕ) → joins l a b ≡ true → joins l v w ≡ true → ((a ≡ v) × (b ≡ w)) ⊎ ((a ≡ w) × (b ≡ v))

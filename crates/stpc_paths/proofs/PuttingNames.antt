@@ -7,13 +7,13 @@ use Rattle.tomo_base.specs.Table.{JoinsAt}
 use Rattle.tomo_base.proofs.Rows.{any_joins-from}
 use Rattle.indep_trees.specs.Trees.{Climbs, IsFree, Trees, parent_in, rank_in}
 use Rattle.plan_form.specs.Tied.{place_between}
-use Rattle.plan_form.proofs.Tied.{place_joins}
+use Rattle.plan_form.proofs.Tied.{place_joins, place_is}
 use Rattle.stpc_paths.specs.declared.roots.Root.{Root}
 use Rattle.stpc_paths.specs.Roots.{after, NameEachOther, IsOwned, IsRoot}
 use Rattle.stpc_paths.specs.Names.{own, shared, IsPathName}
 use Rattle.stpc_paths.specs.Kept.{stops_in, IsForest, monitor_in, AreRoots, SharesPath, itself, below, cell, name_in, PutsName, AreNames}
 use Rattle.stpc_paths.proofs.Forests.{after_below}
-use Rattle.stpc_paths.proofs.Naming.{place_is, name_one, name_exists, name_below, root_owned}
+use Rattle.stpc_paths.proofs.Naming.{name_one, name_exists, name_below, root_owned}
 use Rattle.stpc_paths.proofs.Trees.{goes_on, goes_from, parent_below}
 use Rattle.stpc_paths.proofs.TreePaths.{climb_short}
 use Rattle.stpc_paths.proofs.Laying.{wood, owned_stops, root_link, root_below}

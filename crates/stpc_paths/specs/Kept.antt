@@ -1,6 +1,7 @@
 -- What the steps of the construction say of their trees, roots, names and paths.
-use Rattle.std.specs.Prelude.{ℕ, ◌≡◌, ◌+◌, ◌*◌, ◌<◌, ◌⊎◌, ◌||◌, not, nat_lt, Bool, false, List, [], ◌∷◌, length, slice_get, Some, slice_index_or}
+use Rattle.std.specs.Prelude.{ℕ, ◌≡◌, ◌+◌, ◌*◌, ◌<◌, ◌≤◌, ◌⊎◌, ◌||◌, not, nat_lt, Bool, false, List, [], ◌∷◌, length, slice_get, Some, slice_index_or}
 use Rattle.tomo_base.specs.declared.graph.Link.{Link}
+use Rattle.tomo_base.specs.Limits.{graph_link_limit, graph_node_limit}
 use Rattle.tomo_base.specs.Network.{Network, IsGraph}
 use Rattle.tomo_base.specs.Sets.{has}
 use Rattle.tomo_base.specs.Search.{entry_at}
@@ -25,6 +26,22 @@ pub record IsForest (t : Trees) : Type 0 where
 pub record AreRoots (t : Trees) (links : List Link) (roots : List Root) : Type 0 where
   pub one_each : length roots ≡ length links
   pub each : (e : ℕ) (l : Link) (d : Root) → slice_get links e ≡ Some l → IsRoot (monitor_in t) (parent_in t) (rank_in t) l (slice_index_or roots e d)
+
+-- a forest with these monitors, and the roots of its few links
+pub record AreRooted (t : Trees) (m : List ℕ) (all : List Root) : Type 0 where
+  pub forest : IsForest t
+  pub monitors : m ≡ t.monitors
+  pub few_nodes : t.graph.nodes ≤ graph_node_limit
+  pub few_roots : length all ≤ graph_link_limit
+  pub roots : AreRoots t t.graph.links all
+
+-- trees with these monitors, a name for each node and tree, and a root
+pub record IsNamedRoot (t : Trees) (m names : List ℕ) (r : Root) : Type 0 where
+  pub monitors : m ≡ t.monitors
+  pub few_nodes : t.graph.nodes ≤ graph_node_limit
+  pub node : r.node < t.graph.nodes
+  pub other : r.other < t.graph.nodes
+  pub size : length names ≡ 3 * t.graph.nodes
 
 -- the path of a link with this root, whatever tree paths there are
 abbrev pub IsPathOf : Trees → Root → List ℕ → Type 0

@@ -1,8 +1,8 @@
 // The number of the path that each node has for each tree and the next.
 ghost use Rattle.std.specs.Prelude.{◌≡◌, ◌<◌, ◌≤◌, ◌+◌, ◌*◌, length, IfOk};
-ghost use Rattle.tomo_base.specs.Limits.{graph_link_limit, graph_node_limit};
+ghost use Rattle.tomo_base.specs.Limits.{graph_node_limit};
 ghost use Rattle.indep_trees.specs.Trees.{IsFree};
-ghost use Rattle.stpc_paths.specs.Kept.{IsForest, monitor_in, AreRoots, PutsName, AreNames, cell};
+ghost use Rattle.stpc_paths.specs.Kept.{IsForest, monitor_in, AreRooted, PutsName, AreNames, cell};
 
 use crate::roots::{Root, next_tree, parent_of};
 use indep_trees::IndepTrees;
@@ -59,12 +59,8 @@ pub fn names_of(
     nodes: u32,
     roots: &[Root],
 ) -> Result<Vec<u32>, NoMemory>
-    requires forest { IsForest t.now }
-    requires monitors { m.now ≡ t.now.monitors }
+    requires rooted { AreRooted t.now m.now roots.now }
     requires nodes { nodes ≡ t.now.graph.nodes }
-    requires few_nodes { nodes ≤ graph_node_limit }
-    requires few_roots { length roots.now ≤ graph_link_limit }
-    requires roots { AreRoots t.now t.now.graph.links roots.now }
     ensures { IfOk result (λ n. AreNames t.now n.items) }
 {
     let mut names = vec![in alloc; 0; 3 * nodes as usize]?;

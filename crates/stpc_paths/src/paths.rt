@@ -1,10 +1,10 @@
 // The path of each link.
 ghost use Rattle.std.specs.Prelude.{ℕ, ◌≡◌, ◌<◌, ◌≤◌, ◌*◌, ◌++◌, [], ◌∷◌, List, length, IfOk, OnOk, slice_index_or};
-ghost use Rattle.tomo_base.specs.Limits.{graph_link_limit, graph_node_limit};
+ghost use Rattle.tomo_base.specs.Limits.{graph_node_limit};
 ghost use Rattle.simple_path.specs.Pools.{nodes_in};
 ghost use Rattle.indep_trees.specs.Trees.{Climbs, IsFree, parent_in, rank_in};
 ghost use Rattle.stpc_paths.specs.Roots.{tree_of, second_start, IsOwned};
-ghost use Rattle.stpc_paths.specs.Kept.{IsForest, monitor_in, AreRoots, IsPathOf, ArePathsOf};
+ghost use Rattle.stpc_paths.specs.Kept.{IsForest, monitor_in, AreRooted, IsPathOf, ArePathsOf};
 
 use crate::roots::{Root, next_tree, parent_of};
 use indep_trees::IndepTrees;
@@ -102,12 +102,8 @@ pub fn lay_paths(
     roots: &[Root],
     pool: &mut PathPool,
 ) -> Result<(), NoMemory>
-    requires forest { IsForest t.now }
-    requires monitors { m.now ≡ t.now.monitors }
+    requires rooted { AreRooted t.now m.now roots.now }
     requires nodes { nodes ≡ t.now.graph.nodes }
-    requires few_nodes { nodes ≤ graph_node_limit }
-    requires few_roots { length roots.now ≤ graph_link_limit }
-    requires roots { AreRoots t.now t.now.graph.links roots.now }
     requires empty { pool.old ≡ [] }
     ensures { OnOk result (ArePathsOf t.now roots.now pool.new) }
 {

@@ -1,10 +1,10 @@
 // The recipe of each link, by the names of its ends' paths.
 ghost use Rattle.std.specs.Prelude.{◌≡◌, ◌<◌, ◌≤◌, ◌+◌, ◌*◌, ◌^◌, ◌++◌, length, IfOk, OnOk, Some, None};
-ghost use Rattle.tomo_base.specs.Limits.{graph_link_limit, graph_node_limit};
+ghost use Rattle.tomo_base.specs.Limits.{graph_node_limit};
 ghost use Rattle.stpc_paths.specs.Roots.{IsOwned};
 ghost use Rattle.stpc_paths.specs.Terms.{sign, node_terms, link_terms};
 ghost use Rattle.indep_trees.specs.Trees.{parent_in, rank_in};
-ghost use Rattle.stpc_paths.specs.Kept.{IsForest, monitor_in, AreRoots, AreTermsOf, name_in, stops_in};
+ghost use Rattle.stpc_paths.specs.Kept.{IsNamedRoot, AreRooted, monitor_in, AreTermsOf, name_in, stops_in};
 
 use crate::names::cell_of;
 use crate::roots::{Root, next_tree};
@@ -68,12 +68,8 @@ fn inside_terms(
     root: Root,
     link: u32,
 ) -> Result<Recipe, NoMemory>
-    requires monitors { m.now ≡ t.now.monitors }
-    requires few_nodes { t.now.graph.nodes ≤ graph_node_limit }
     requires tree { tree < 3 }
-    requires node { root.node < t.now.graph.nodes }
-    requires other { root.other < t.now.graph.nodes }
-    requires size { length names.now ≡ 3 * t.now.graph.nodes }
+    requires named { IsNamedRoot t.now m.now names.now root }
     ensures { IfOk result (λ r. r ≡ link_terms (stops_in t.now) (name_in names.now) link root.node root.other (Some tree)) }
 {
     let mut recipe = Recipe::new(alloc);
@@ -91,11 +87,7 @@ fn outside_terms(
     root: Root,
     link: u32,
 ) -> Result<Recipe, NoMemory>
-    requires monitors { m.now ≡ t.now.monitors }
-    requires few_nodes { t.now.graph.nodes ≤ graph_node_limit }
-    requires node { root.node < t.now.graph.nodes }
-    requires other { root.other < t.now.graph.nodes }
-    requires size { length names.now ≡ 3 * t.now.graph.nodes }
+    requires named { IsNamedRoot t.now m.now names.now root }
     ensures { IfOk result (λ r. r ≡ link_terms (stops_in t.now) (name_in names.now) link root.node root.other None) }
 {
     let mut recipe = Recipe::new(alloc);
@@ -117,12 +109,8 @@ fn recipe_of(
     link: u32,
     root: Root,
 ) -> Result<Recipe, NoMemory>
-    requires monitors { m.now ≡ t.now.monitors }
-    requires few_nodes { t.now.graph.nodes ≤ graph_node_limit }
-    requires node { root.node < t.now.graph.nodes }
-    requires other { root.other < t.now.graph.nodes }
     requires owned { IsOwned (monitor_in t.now) (parent_in t.now) (rank_in t.now) root.node root.other root.tree }
-    requires size { length names.now ≡ 3 * t.now.graph.nodes }
+    requires named { IsNamedRoot t.now m.now names.now root }
     ensures { IfOk result (λ r. r ≡ link_terms (stops_in t.now) (name_in names.now) link root.node root.other root.tree) }
 {
     match root.tree {
@@ -139,11 +127,7 @@ pub fn recipes_of(
     names: &[u32],
     roots: &[Root],
 ) -> Result<Recipes, NoMemory>
-    requires forest { IsForest t.now }
-    requires monitors { m.now ≡ t.now.monitors }
-    requires few_nodes { t.now.graph.nodes ≤ graph_node_limit }
-    requires few_roots { length roots.now ≤ graph_link_limit }
-    requires roots { AreRoots t.now t.now.graph.links roots.now }
+    requires rooted { AreRooted t.now m.now roots.now }
     requires size { length names.now ≡ 3 * t.now.graph.nodes }
     ensures { IfOk result (λ r. AreTermsOf t.now names.now roots.now r) }
 {

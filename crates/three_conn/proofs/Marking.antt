@@ -8,7 +8,7 @@ use Rattle.tomo_base.specs.Search.{mark_of}
 use Rattle.tomo_base.specs.Table.{AreHops}
 use Rattle.tomo_base.specs.declared.graph.Hop.{Hop}
 use Rattle.tomo_base.proofs.Counts.{count-less}
-use Rattle.gate_search.proofs.Hops.{hop_linked}
+use Rattle.tomo_base.proofs.Rows.{hop_linked}
 use Rattle.tomo_base.specs.Parting.{with_one}
 use Rattle.gate_search.proofs.Marks.{mark_more}
 use Rattle.three_conn.specs.Held.{IsHeld, IsRest}

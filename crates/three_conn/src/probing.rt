@@ -11,7 +11,7 @@ use crate::growing::grow;
 use crate::known::{Parting, begin};
 use crate::marks::{all_but, first_marked, first_missed};
 use std::alloc::Global;
-use tomo_base::{Graph, NoMemory, sweep};
+use tomo_base::{Graph, NoMemory, Swept, sweep};
 
 // A side of the set without two of its nodes, where these part it.
 fn side_without(
@@ -122,29 +122,78 @@ pub fn other(g: &Graph, nodes: &[bool], root: u32) -> u32
     unreachable!()
 }
 
+// A node, and how many steps lead to it in the tree of a search.
+#[derive(Clone, Copy)]
+struct Far {
+    node: u32,
+    steps: usize,
+}
+
+// How many steps lead up from a node to the root of a search. It tells which sets are long, for speed alone.
+fn steps_up(found: &Swept, node: u32) -> usize {
+    let mut at = node;
+    for steps in 0..found.order.len() {
+        match found.parent.get(at as usize) {
+            Some(&up) if up != at => at = up,
+            _ => return steps,
+        }
+    }
+    found.order.len()
+}
+
 // A node of the set that is farthest from the root; any other where no walk in the set leads from the root to another.
-fn farthest(alloc: Global, g: &Graph, nodes: &[bool], root: u32) -> Result<u32, NoMemory>
+fn farthest(alloc: Global, g: &Graph, nodes: &[bool], root: u32) -> Result<Far, NoMemory>
     requires marks { length nodes.now ≡ g.now.nodes }
     requires two { 2 ≤ size g.now (mark_of nodes.now) }
     requires root { mark_of nodes.now root ≡ true }
-    ensures node { IfOk result (λ v. mark_of nodes.now v ≡ true) }
-    ensures other { IfOk result (λ v. root ≢ v) }
+    ensures node { IfOk result (λ far. mark_of nodes.now far.node ≡ true) }
+    ensures other { IfOk result (λ far. root ≢ far.node) }
 {
     let found = sweep(alloc, g, nodes, &[root])?;
     let last = found.order[found.order.len() - 1];
-    if last == root {
-        Ok(other(g, nodes, root))
+    let node = if last == root {
+        other(g, nodes, root)
     } else {
-        Ok(last)
-    }
+        last
+    };
+    let steps = steps_up(&found, last);
+    Ok(Far { node, steps })
 }
 
-/// Looks for two nodes that part a set of at least four nodes of a graph; what links lead out of the set is not looked at. The root, a node
-/// of the set, is first tried with a node farthest from it, so that a ring is cut in half, and a split tree of rings is as deep as the
-/// logarithm of their nodes. Then no two nodes part the set if none part it beside the root, and none beside that other node: from each of
-/// the two, nodes are gathered that no two others part from it, each by a search that stops at the third gathered node that it meets. Two
-/// searches linear in nodes and links, and at most two short ones for each node: on networks that are no narrow strips, these look at each
-/// link a few times in all.
+// The parting of the set by two nodes in the middle of a search from one end of it, one behind the other in its order, where two such nodes
+// part it.
+fn middle_parting(
+    alloc: Global,
+    g: &Graph,
+    nodes: &[bool],
+    end: u32,
+) -> Result<Option<Parting>, NoMemory>
+    requires marks { length nodes.now ≡ g.now.nodes }
+    requires end { mark_of nodes.now end ≡ true }
+    ensures { IfOk result (λ o. IfSome o (IsParting g.now (mark_of nodes.now))) }
+{
+    let found = sweep(alloc, g, nodes, &[end])?;
+    let middle = found.order.len() / 2;
+    for place in middle..found.order.len().min(middle + 2) {
+        if place > 0 {
+            let (before, here) = (found.order[place - 1], found.order[place]);
+            if let Some(parting) = parting_at(alloc, g, nodes, before, here)? {
+                return Ok(Some(parting));
+            }
+        }
+    }
+    Ok(None)
+}
+
+// In a long set there are fewer links to a step than this.
+const NARROW: usize = 16;
+
+/// Looks for two nodes that part a set of at least four nodes of a graph; what links lead out of the set is not looked at. A long set is
+/// first tried in the middle of a search from its one end, and then the root, a node of the set, with a node farthest from it, so that
+/// rings and ladders are cut in half, and a split tree of them is as deep as the logarithm of their nodes. Then no two nodes part the set if
+/// none part it beside the root, and none beside that other node: from each of the two, nodes are gathered that no two others part from it,
+/// each by a search that stops at the third gathered node that it meets. A few searches linear in nodes and links, and at most two short
+/// ones for each node: on networks that are no narrow strips, these look at each link a few times in all.
 pub fn probe(
     alloc: Global,
     g: &Graph,
@@ -157,6 +206,11 @@ pub fn probe(
     ensures whole { IfOk result (λ o. IfNone o (IsThreeConnectedIn g.now (mark_of nodes.now))) }
     ensures parting { IfOk result (λ o. IfSome o (IsParting g.now (mark_of nodes.now))) }
 {
-    let last = farthest(alloc, g, nodes, root)?;
-    seek(alloc, g, nodes, root, last)
+    let far = farthest(alloc, g, nodes, root)?;
+    if far.steps > g.links().len() / NARROW {
+        if let Some(parting) = middle_parting(alloc, g, nodes, far.node)? {
+            return Ok(Some(parting));
+        }
+    }
+    seek(alloc, g, nodes, root, far.node)
 }

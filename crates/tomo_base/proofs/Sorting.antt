@@ -1,15 +1,17 @@
 -- A sort of vectors sorts the lists that they hold.
-use Rattle.std.proofs.Common.{◌≡◌, ℕ, ◌+◌, ◌<◌, eqb, Bool, List, [], ◌∷◌, length, map, refl, ap, inl, inr, arith, Vec, Contains}
+use Rattle.std.proofs.Common.{◌≡◌, ℕ, ◌+◌, ◌<◌, ◌≤◌, eqb, Bool, List, [], ◌∷◌, length, map, refl, ap, inl, inr, arith, Vec, Contains}
 use lib.Pointwise.{pointwise, bytes_decides}
 use Rattle.std.specs.Global.{Global}
 use Rattle.std.specs.declared.cmp.Ordering.{Ordering}
 use Rattle.std.specs.Ordering.{nat_cmp}
 use Rattle.std.specs.Cmp.Lexicographic.{lists_ties, nat_list_cmp_total, nat_list_eq_equiv}
 use Rattle.std.specs.Cmp.{unsigned_ties}
-use Rattle.std.specs.List.{dedup}
-use Rattle.std.specs.List.Sorted.{IsSorted, IsStrictlySortedBy}
+use Rattle.std.specs.List.{dedup, sum_by}
+use Rattle.std.specs.List.Sorted.{IsSorted, IsStrictlySortedBy, IsPermutation}
 use Rattle.std.proofs.lemmas.Bool.{cases_Bool}
 use Rattle.std.proofs.lemmas.List.{get_or-map, length-map}
+use Rattle.std.proofs.lemmas.List.Recursion.{is_sum_by}
+use Rattle.std.proofs.lemmas.List.Sorted.{sum_by-IsPermutation}
 use Rattle.std.proofs.lemmas.List.Kept.{IsStrictlySortedBy-dedup, Contains-dedup}
 use Rattle.tomo_base.specs.SetLists.{set_cmp, lists_of}
 
@@ -38,3 +40,28 @@ rises vs sorted = IsStrictlySortedBy-dedup nat_list_cmp_total (lists_ties nat_cm
 -- and none is lost
 pub keeps : (ps : List (List ℕ)) (p : List ℕ) → Contains ps p → Contains (dedup (pointwise eqb) ps) p
 keeps ps p h = Contains-dedup nat_list_eq_equiv (λ x y. (bytes_decides x y).0) ps p h
+
+-- ---- a sum over the lists
+
+-- the sum, one list after the other
+abbrev total : (List ℕ → ℕ) → List (List ℕ) → ℕ
+total w [] = 0
+total w (p ∷ ps) = w p + total w ps
+
+-- it gets no larger when equal lists are kept once
+total-dedup : (w : List ℕ → ℕ) (E : List ℕ → List ℕ → Bool) (ps : List (List ℕ)) → total w (dedup E ps) ≤ total w ps
+total-dedup w E [] = omega arith
+total-dedup w E (p ∷ ps) = from p ps
+  where
+    from : (p : List ℕ) (ps : List (List ℕ)) → total w (dedup E (p ∷ ps)) ≤ total w (p ∷ ps)
+    from p [] = omega arith
+    from p (q ∷ ps) = elim (cases_Bool (E q p)) [
+      | inl e ↦ rw e (omega (arith, from p ps))
+      | inr e ↦ rw e (omega (arith, from q ps))
+    ]
+
+-- after a sort it is the same, so after both no larger
+pub sum_by-sorted : (w : List ℕ → ℕ) (E : List ℕ → List ℕ → Bool) (ps qs : List (List ℕ)) → IsPermutation ps qs → sum_by w (dedup E qs) ≤ sum_by w ps
+sum_by-sorted w E ps qs h =
+    let sums : (xs : List (List ℕ)) → total w xs ≡ sum_by w xs = is_sum_by (total w) w refl (λ p xs. refl) in
+    omega (arith, sum_by-IsPermutation w ps qs h, total-dedup w E qs, sums qs, sums (dedup E qs))

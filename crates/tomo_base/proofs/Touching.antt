@@ -69,7 +69,7 @@ has-ends_of [] w = refl
 has-ends_of (h ∷ hops) w = ap (λ b. (h.node == w) || b) (has-ends_of hops w)
 
 -- a node touches a single node where a link joins them
-touches-single : (g : Network) (v w : ℕ) → IsGraph g → touches g (λ u. u == w) v ≡ linked g v w
+pub touches-single : (g : Network) (v w : ℕ) → IsGraph g → touches g (λ u. u == w) v ≡ linked g v w
 touches-single g v w graph = elim (cases_Bool (linked g v w)) [
   | inl e ↦ touches-from g (λ u. u == w) v w (linked_below g.nodes g.links v w graph e).1 (eq-eqb w w refl) e ∙ sym e
   | inr e ↦ false_from_ne_true (touches g (λ u. u == w) v) (λ h.

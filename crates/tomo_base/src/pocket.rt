@@ -1,9 +1,11 @@
 // Pockets: node sets with at most two outside neighbours, and the monitors that each of them needs.
-ghost use Rattle.std.specs.Prelude.{◌≡◌, ◌<◌, ◌≤◌, ◌+◌, ◌^◌, ◌++◌, [], ◌∷◌, All, length, OnOk, IfErr, OnErr, slice_get, Some};
-ghost use Rattle.tomo_base.specs.Sets.{has};
+ghost use Rattle.std.specs.Prelude.{◌≡◌, ◌<◌, ◌≤◌, ◌+◌, ◌^◌, ◌||◌, ◌++◌, ℕ, Bool, [], ◌∷◌, All, length, OnOk, IfErr, OnErr, slice_get, Some};
+ghost use Rattle.tomo_base.specs.Sets.{has, outside};
+ghost use Rattle.tomo_base.specs.Met.{AreMet, is_new};
 ghost use Rattle.tomo_base.specs.Pockets.{need_of};
 
-use crate::graph::Graph;
+use crate::graph::{Graph, Hop};
+use crate::met::Met;
 use crate::node_set::NodeSet;
 use std::alloc::Global;
 use std::marker::Model;
@@ -72,17 +74,40 @@ impl Pockets {
 }
 
 /// How many monitors every identifying set has in the pocket, at least: the number of its nodes, and no more than 3 less the
-/// number of its outside neighbours; 0 where it has more than two of these. It takes no memory.
+/// number of its outside neighbours; 0 where it has more than two of these. It takes no memory: a search in the pocket for each hop
+/// of its nodes.
 pub fn need(g: &Graph, p: &NodeSet) -> u32
     requires filled { 1 ≤ length p.now }
     requires nodes { All (λ v. v < g.now.nodes) p.now }
     ensures { result ≡ need_of g.now (has p.now) }
 {
-    let mut outside = 0;
-    for v in 0..g.nodes() {
-        if p.borders(g, v) {
-            outside += 1;
+    let _nodes = g.nodes();
+    let outside = outside_met(g, p).count();
+    p.len().min(3u32 - outside)
+}
+
+// The outside neighbours of the nodes.
+fn outside_met(g: &Graph, p: &NodeSet) -> Met
+    requires { All (λ v. v < g.now.nodes) p.now }
+    ensures { AreMet g.now.nodes (outside g.now (has p.now)) result }
+{
+    let _nodes = g.nodes();
+    let mut met = Met::None;
+    for &v in p.as_slice() {
+        met = meet(g.hops(v), p, met);
+    }
+    met
+}
+
+// The nodes met, after those outside the set to which the hops lead.
+fn meet(hops: &[Hop], p: &NodeSet, before: Met) -> Met
+    ensures { (n : ℕ) (q : ℕ → Bool) → All (λ h. h.node < n) hops.now → AreMet n q before → AreMet n (λ w. q w || is_new p.now hops.now w) result }
+{
+    let mut met = before;
+    for hop in hops {
+        if !p.has(hop.node) {
+            met = met.with(hop.node);
         }
     }
-    p.len().min(3u32.saturating_sub(outside))
+    met
 }

@@ -19,8 +19,8 @@ pub struct Swept {
     pub rank: Vec<u32>,
 }
 
-// Puts a node at the end of the order.
-fn reach(node: u32, from: u32, found: &mut Swept) -> Result<(), AllocError>
+/// Puts a node at the end of the order.
+pub fn reach(node: u32, from: u32, found: &mut Swept) -> Result<(), AllocError>
     requires few { length found.old.order.items ≤ graph_node_limit }
     requires parent { node < length found.old.parent.items }
     requires rank { node < length found.old.rank.items }
@@ -56,8 +56,8 @@ fn plant(alloc: Global, n: u32, seeds: &[u32]) -> Result<Swept, NoMemory>
     Ok(found)
 }
 
-// Reaches the free neighbours of the node at the place `head` of the order.
-fn look(g: &Graph, free: &[bool], head: usize, found: &mut Swept) -> Result<(), AllocError>
+/// Reaches the free neighbours of the node at the place `head` of the order. Time is linear in its links.
+pub fn look(g: &Graph, free: &[bool], head: usize, found: &mut Swept) -> Result<(), AllocError>
     requires marks { length free.now ≡ g.now.nodes }
     requires place { head < length found.old.order.items }
     requires ranks { AreRanked g.now.nodes free.now found.old.order.items found.old.rank.items }
@@ -65,6 +65,8 @@ fn look(g: &Graph, free: &[bool], head: usize, found: &mut Swept) -> Result<(), 
     ensures place { OnOk result (head < length found.new.order.items) }
     ensures searched { OnOk result ((seeds : List ℕ) → IsSearch g.now free.now seeds head found.old.order.items found.old.parent.items found.old.rank.items →
         IsSearch g.now free.now seeds (head + 1) found.new.order.items found.new.parent.items found.new.rank.items) }
+    ensures longer { OnOk result (length found.old.order.items ≤ length found.new.order.items) }
+    ensures kept { OnOk result ((k : ℕ) → k < length found.old.order.items → entry_at found.new.order.items k ≡ entry_at found.old.order.items k) }
 {
     let n = g.nodes();
     let node = found.order[head];

@@ -120,13 +120,13 @@ shape words =
     if bytes_eq (slice_index_or words 0 []) (codes "drill") then drill_shape words else shaped words (task_of (slice_index_or words 0 []))
 
 -- the names of the files of a shape
-abbrev pub names_of : Shape → List (List ℕ) → List (List ℕ)
-names_of shape words = take (length (files_of shape.command)) (drop (first_place shape.header) words)
+abbrev pub named_files : Shape → List (List ℕ) → List (List ℕ)
+named_files shape words = take (length (files_of shape.command)) (drop (first_place shape.header) words)
 
 -- the names of the files, where there is a shape
 abbrev pub named : List (List ℕ) → Option Shape → List (List ℕ)
 named words None = []
-named words (Some shape) = names_of shape words
+named words (Some shape) = named_files shape words
 
 -- the words that name files, in their order
 abbrev pub file_words : List (List ℕ) → List (List ℕ)

@@ -15,7 +15,7 @@ use Rattle.indexmap.specs.IndexSet.{insert_key}
 use Rattle.tomo_base.specs.Network.{Network, IsGraph}
 use Rattle.tomo_base.specs.Walks.{IsConnected}
 use Rattle.topology.specs.Names.{is_name}
-use Rattle.topology.specs.Numbered.{decimals, numbered}
+use Rattle.topology.specs.Numbered.{decimals, with_numbers}
 use Rattle.topology.specs.Topology.{IsTopology}
 use Rattle.topology.proofs.Distinct.{insert_new}
 use Rattle.topology.proofs.Numbers.{names_differ}
@@ -61,7 +61,7 @@ decimals_differ zero le = tt
 decimals_differ (suc k) le = IsDistinct-push nat_list_eq_equiv (decimals k) (decimal k) (decimals_differ k (omega (arith, le))) (new_decimal k k (omega arith) (omega (arith, le)))
 
 -- so a connected graph within the limits is a topology with these names
-pub numbered_is_topology : (g : Network) → IsGraph g → IsConnected g → 3 ≤ g.nodes → g.nodes ≤ node_limit → length g.links ≤ link_limit → IsTopology (numbered g)
+pub numbered_is_topology : (g : Network) → IsGraph g → IsConnected g → 3 ≤ g.nodes → g.nodes ≤ node_limit → length g.links ≤ link_limit → IsTopology (with_numbers g)
 numbered_is_topology g graph connected some few few_links = record {
   graph = graph;
   connected = connected;

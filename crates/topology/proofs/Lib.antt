@@ -7,6 +7,7 @@ pub mod Drafts
 pub mod RowFaults
 pub mod Reading
 pub mod Ending
+pub mod Extending
 pub mod Picked
 pub mod Named
 pub mod Choices

@@ -9,5 +9,5 @@ decimals zero = []
 decimals (suc k) = decimals k ++ decimal k ∷ []
 
 -- the graph, in which each node has its number for a name
-abbrev pub numbered : Network → Topo
-numbered g = record { names = decimals g.nodes; graph = g }
+abbrev pub with_numbers : Network → Topo
+with_numbers g = record { names = decimals g.nodes; graph = g }

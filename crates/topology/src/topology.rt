@@ -45,7 +45,7 @@ impl Topology {
         requires some_nodes { 3 ≤ g.nodes }
         requires few_nodes { g.nodes ≤ node_limit }
         requires few_links { length g.links ≤ link_limit }
-        ensures topology { IfOk result (λ t. t ≡ spec.numbered g) }
+        ensures topology { IfOk result (λ t. t ≡ spec.with_numbers g) }
         ensures handed_back { IfErr result (λ back. back ≡ g) }
     {
         match Names::decimals(alloc, g.nodes()) {
@@ -58,6 +58,7 @@ impl Topology {
     pub fn graph(&self) -> &Graph
         ensures graph { result.now ≡ self.now.graph }
         ensures topology { IsTopology self.now }
+        ensures connected { IsConnected result.now }
     {
         &self.graph
     }

@@ -3,12 +3,4 @@
 #![tactic(auto)]
 
 #[cfg(test)]
-mod connectivity;
-#[cfg(test)]
-mod judging;
-#[cfg(test)]
-mod parts;
-#[cfg(test)]
-mod placements;
-#[cfg(test)]
-mod shapes;
+mod tests;

@@ -2,18 +2,4 @@
 #![tactic(auto)]
 
 #[cfg(test)]
-mod devices;
-#[cfg(test)]
-mod flows;
-#[cfg(test)]
-mod graphs;
-#[cfg(test)]
-mod link_recipes;
-#[cfg(test)]
-mod paths;
-#[cfg(test)]
-mod rounds;
-#[cfg(test)]
-mod row_texts;
-#[cfg(test)]
-mod topologies;
+mod tests;

@@ -2,22 +2,4 @@
 #![tactic(auto)]
 
 #[cfg(test)]
-mod checking;
-#[cfg(test)]
-mod drills;
-#[cfg(test)]
-mod ears;
-#[cfg(test)]
-mod independent;
-#[cfg(test)]
-mod plans;
-#[cfg(test)]
-mod small;
-#[cfg(test)]
-mod solving;
-#[cfg(test)]
-mod texts;
-#[cfg(test)]
-mod tree_paths;
-#[cfg(test)]
-mod written;
+mod tests;

@@ -1,4 +1,4 @@
-use Rattle.std.proofs.Common.{◌≡◌, ◌≤◌, length, get_or, arith, refl, ap, subst, map, ℕ, List}
+use Rattle.std.proofs.Common.{◌≡◌, ◌≤◌, ◌*◌, length, get_or, arith, refl, ap, subst, map, ℕ, List}
 use Rattle.tomo_base.specs.Limits.{graph_node_limit}
 use Rattle.tomo_base.specs.Network.{Network}
 use Rattle.tomo_base.proofs.Ascending.{length-node_set}
@@ -8,9 +8,7 @@ use Rattle.answers.specs.Components.{Parts, ArePartsOf, cut_row, block_row, thre
 use Rattle.answers.proofs.ThreeBlocks.{home_of_three_block}
 use Rattle.answers.proofs.Telling.{added_four}
 use Rattle.answers.proofs.components.tell_components.Goals as goal
-
-pub blocks-requires-clause-connected : goal.blocks-requires-clause-connected
-blocks-requires-clause-connected c = rw c.graph-g.ensures.graph c.graph-g.ensures.topology.connected
+use Rattle.answers.proofs.components.tell_components.Goals.{After-as_slice, After-list-3}
 
 pub homes-requires : goal.homes-requires
 homes-requires c =
@@ -18,52 +16,48 @@ homes-requires c =
     rw c.list-2.ensures (λ k d l.
     home_of_three_block c.graph-g.result.now c.in_ok-parts.parts.list (get_or c.in_ok-three_blocks.three_blocks k d) c.in_ok-parts.ensures.blocks.with_it (sets.nodes k d l) (sets.each k d l))
 
+-- at first there are no rows, and there are few cut vertices
+few_cuts : (c : After-as_slice) → (length c.new-rows.result.closed ≡ 0) × (length c.as_slice.result.now ≤ graph_node_limit)
+few_cuts c =
+    let few = length-node_set c.cuts.result.now (record { ascending = c.as_slice.ensures.ascending; below = c.as_slice.ensures.below }) in
+    (ap (λ (r : RowList). length r.closed) c.new-rows.ensures, rw c.as_slice.ensures.nodes few)
+
+-- there is as much room as for the rows of the nodes, the cut vertices and the blocks
+few_rows : (c : After-list-3) → (length c.new-rows.result.closed ≡ 0) × (length c.as_slice.result.now ≤ graph_node_limit)
+    → (length c.add_cuts.new.rows.closed ≤ 2 * graph_node_limit) × (length c.list-3.result.now ≤ 2 * graph_node_limit) × (c.args.topology.now.graph.nodes ≤ graph_node_limit)
+few_rows c cuts =
+    let topo = c.graph-g.ensures.topology in
+    let nodes = ap (λ (g : Network). g.nodes) c.graph-g.ensures.graph in (
+      omega (arith, cuts.0, cuts.1, topo.one_each, topo.few_nodes, c.in_ok-add_nodes.ensures.count, c.in_ok-add_cuts.ensures.count),
+      rw c.list-3.ensures (omega (arith, nodes, topo.few_nodes, c.in_ok-parts.ensures.few)),
+      omega (arith, topo.few_nodes),
+    )
+
 pub add_cuts-requires-clause-room : goal.add_cuts-requires-clause-room
 add_cuts-requires-clause-room c =
     let topo = c.graph-g.ensures.topology in
-    let none : length c.new-rows.result.closed ≡ 0 = ap (λ (r : RowList). length r.closed) c.new-rows.ensures in
-    let few : length c.cuts.result.now ≤ graph_node_limit = length-node_set c.cuts.result.now (record { ascending = c.as_slice.ensures.ascending; below = c.as_slice.ensures.below }) in
-    rw c.as_slice.ensures.nodes (omega (arith, none, few, topo.one_each, topo.few_nodes, c.in_ok-add_nodes.ensures.count))
+    let cuts = few_cuts (goal.at.add_cuts-requires-clause-room c).After-as_slice in
+    omega (arith, cuts.0, cuts.1, topo.one_each, topo.few_nodes, c.in_ok-add_nodes.ensures.count)
 
 pub add_blocks-requires-clause-room : goal.add_blocks-requires-clause-room
 add_blocks-requires-clause-room c =
-    let topo = c.graph-g.ensures.topology in
-    let none : length c.new-rows.result.closed ≡ 0 = ap (λ (r : RowList). length r.closed) c.new-rows.ensures in
-    let cuts : length c.as_slice.result.now ≤ graph_node_limit = rw c.as_slice.ensures.nodes (length-node_set c.cuts.result.now (record { ascending = c.as_slice.ensures.ascending; below = c.as_slice.ensures.below })) in
-    let nodes = ap (λ (g : Network). g.nodes) c.graph-g.ensures.graph in
-    rw c.list-3.ensures (omega (arith, none, cuts, nodes, topo.one_each, topo.few_nodes, c.in_ok-parts.ensures.few, c.in_ok-add_nodes.ensures.count, c.in_ok-add_cuts.ensures.count))
+    let here = goal.at.add_blocks-requires-clause-room c in
+    let few = few_rows here.After-list-3 (few_cuts here.After-as_slice) in
+    omega (arith, few.0, few.1)
 
 pub add_three_blocks-requires-clause-room : goal.add_three_blocks-requires-clause-room
 add_three_blocks-requires-clause-room c =
-    let topo = c.graph-g.ensures.topology in
-    let none : length c.new-rows.result.closed ≡ 0 = ap (λ (r : RowList). length r.closed) c.new-rows.ensures in
-    let cuts : length c.as_slice.result.now ≤ graph_node_limit = rw c.as_slice.ensures.nodes (length-node_set c.cuts.result.now (record { ascending = c.as_slice.ensures.ascending; below = c.as_slice.ensures.below })) in
-    let blocks = ap (λ (bs : List (List ℕ)). length bs) c.list-3.ensures in
+    let here = goal.at.add_three_blocks-requires-clause-room c in
+    let few = few_rows here.After-list-3 (few_cuts here.After-as_slice) in
     let nodes = ap (λ (g : Network). g.nodes) c.graph-g.ensures.graph in
-    omega (arith, none, cuts, blocks, nodes, topo.one_each, topo.few_nodes, c.in_ok-parts.ensures.few, c.in_ok-three_blocks.ensures.few, c.in_ok-add_nodes.ensures.count, c.in_ok-add_cuts.ensures.count, c.in_ok-add_blocks.ensures.count)
+    omega (arith, few.0, few.1, few.2, nodes, c.in_ok-three_blocks.ensures.few, c.in_ok-add_blocks.ensures.count)
 
 pub add_row-requires-clause-room : goal.add_row-requires-clause-room
 add_row-requires-clause-room c =
-    let topo = c.graph-g.ensures.topology in
-    let none : length c.new-rows.result.closed ≡ 0 = ap (λ (r : RowList). length r.closed) c.new-rows.ensures in
-    let cuts : length c.as_slice.result.now ≤ graph_node_limit = rw c.as_slice.ensures.nodes (length-node_set c.cuts.result.now (record { ascending = c.as_slice.ensures.ascending; below = c.as_slice.ensures.below })) in
-    let blocks = ap (λ (bs : List (List ℕ)). length bs) c.list-3.ensures in
+    let here = goal.at.add_row-requires-clause-room c in
+    let few = few_rows here.After-list-3 (few_cuts here.After-as_slice) in
     let nodes = ap (λ (g : Network). g.nodes) c.graph-g.ensures.graph in
-    omega (
-      arith,
-      none,
-      cuts,
-      blocks,
-      nodes,
-      topo.one_each,
-      topo.few_nodes,
-      c.in_ok-parts.ensures.few,
-      c.in_ok-three_blocks.ensures.few,
-      c.in_ok-add_nodes.ensures.count,
-      c.in_ok-add_cuts.ensures.count,
-      c.in_ok-add_blocks.ensures.count,
-      c.in_ok-add_three_blocks.ensures.count,
-    )
+    omega (arith, few.0, few.1, few.2, nodes, c.in_ok-three_blocks.ensures.few, c.in_ok-add_blocks.ensures.count, c.in_ok-add_three_blocks.ensures.count)
 
 pub returns : goal.returns
 returns c =

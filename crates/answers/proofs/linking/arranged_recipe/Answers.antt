@@ -7,9 +7,6 @@ use Rattle.answers.proofs.CrossTerms.{arrangeable, link_recipe, paths_measured}
 use Rattle.answers.proofs.linking.arranged_recipe.Goals as goal
 use Rattle.answers.proofs.linking.arranged_recipe.Goals.{After-recipes-2}
 
-pub recipe-requires-clause-connected : goal.recipe-requires-clause-connected
-recipe-requires-clause-connected c = rw c.graph.ensures.graph c.graph.ensures.topology.connected
-
 pub arrange-requires : goal.arrange-requires
 arrange-requires c =
     let adds = rw (c.new-pool.ensures, c.graph.ensures.graph) at c.in_ok-terms.ensures.ok in

@@ -2,9 +2,6 @@ use Rattle.std.proofs.Common.{inl, refl, ap}
 use Rattle.rows.specs.Rows.{RowList}
 use Rattle.answers.proofs.linking.tell_recipe.Goals as goal
 
-pub judge-requires-clause-connected : goal.judge-requires-clause-connected
-judge-requires-clause-connected c = rw c.graph.ensures.graph c.graph.ensures.topology.connected
-
 pub arranged_recipe-requires-clause-identifies : goal.arranged_recipe-requires-clause-identifies
 arranged_recipe-requires-clause-identifies c = rw (c.in_default.is, c.graph.ensures.graph) at c.in_ok-nodes.ensures.verdict
 

@@ -10,9 +10,6 @@ use Rattle.answers.specs.declared.status.Status.TheVariants.{Done}
 use Rattle.answers.specs.Planning.{IsKept, PlansFor}
 use Rattle.answers.proofs.planning.plan_paths.Goals as goal
 
-pub judge-requires-clause-connected : goal.judge-requires-clause-connected
-judge-requires-clause-connected c = rw c.graph.ensures.graph c.graph.ensures.topology.connected
-
 -- a plan that is told is one for the monitors
 told_for : {E : Type 0} (t : Topo) (m : List ℕ) (p : PlanParts) (r : Result Answer E) → Identifies t.graph (has m) → IsPlanFor t.names t.graph m p → IsKept p → IfOk r (λ a. a.status ≡ Done) → IfOk r (λ a. a.rows.closed ≡ plan_rows p)
     → IfOk r (λ a. PlansFor t m a.status a.rows.closed)

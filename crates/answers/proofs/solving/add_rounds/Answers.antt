@@ -9,11 +9,11 @@ loop-k-init c = (solved_none c.args.measured.now.checked.topology.graph c.args.m
 pub loop-k-preserved : goal.loop-k-preserved
 loop-k-preserved c =
     let (so_far, room) = c.loop-k.invariant in
-    let outcome : Outcome = record { sums = c.round.result.now; answer = c.solve_into-verdict.result; delays = c.solve_into-verdict.new.out } in (
+    let outcome : Outcome = record { sums = c.round.result.now; answer = c.solve_round-verdict.result; delays = c.solve_round-verdict.new.out } in (
       rw c.refusals_of-refused.ensures.count
           (solved_more c.args.measured.now.checked.topology.graph c.args.measured.now.checked.plan c.args.measured.now.rounds c.args.rows.now c.loop-k.rows c.add_round.new.rows c.loop-k.k c.loop-k.refused outcome
           (rw c.len-k-end.ensures at c.loop-k-test.true) so_far c.round.ensures
-          (record { verdict = rw c.graph-graph.ensures.graph at c.solve_into-verdict.ensures.verdict; means = rw c.graph-graph.ensures.graph at c.solve_into-verdict.ensures.means; tied = rw c.graph-graph.ensures.graph at c.solve_into-verdict.ensures.no_path })
+          (record { verdict = rw c.graph-graph.ensures.graph at c.solve_round-verdict.ensures.verdict; means = rw c.graph-graph.ensures.graph at c.solve_round-verdict.ensures.means; tied = rw c.graph-graph.ensures.graph at c.solve_round-verdict.ensures.no_path })
           (rw c.refusals_of-refused.ensures.count at c.refusals_of-refused.ensures.one) c.in_ok-add_round.ensures),
-      c.solve_into-verdict.ensures.same_length ∙ room,
+      c.solve_round-verdict.ensures.same_length ∙ room,
     )

@@ -9,7 +9,7 @@ use Rattle.gate_search.proofs.Marks.{mark_below}
 use Rattle.gate_search.proofs.Trees.{order_below, free_in, first_in}
 use Rattle.gate_search.proofs.Stopping.{searched_room}
 use Rattle.blocks.specs.declared.block_list.Work.{Work}
-use Rattle.blocks.specs.Growing.{IsWay, IsCutOff}
+use Rattle.blocks.specs.Growing.{HasTwoGates, HasOneGate}
 use Rattle.blocks.specs.Working.{weight_of}
 use Rattle.blocks.proofs.Filtering.{marked_has, marked_set}
 use Rattle.blocks.proofs.CutOff.{grown_less, all_held}
@@ -54,7 +54,7 @@ loop-x-preserved-in_ok-hold_way-in-Way c =
     let g = c.args.g.now in
     let inv = c.loop-x.invariant in
     let s = c.step.new.search in
-    let way : IsWay g (mark_of c.loop-x.nodes.items) c.loop-x.free.items s c.in-Way.y = rw (c.deref-then-index-2.ensures.value, c.deref-then-index-3.ensures.value, c.in-Way.is) at c.in_ok-y.ensures in
+    let way : HasTwoGates g (mark_of c.loop-x.nodes.items) c.loop-x.free.items s c.in-Way.y = rw (c.deref-then-index-2.ensures.value, c.deref-then-index-3.ensures.value, c.in-Way.is) at c.in_ok-y.ensures in
     record {
       working = inv.working;
       lighter = inv.lighter;
@@ -71,14 +71,14 @@ pub put_off-requires-clause-side : goal.put_off-requires-clause-side
 put_off-requires-clause-side c =
     let g = c.args.g.now in
     let s = c.step.new.search in
-    let off : IsCutOff g (mark_of c.loop-x.nodes.items) c.loop-x.free.items s c.in-Cut.d = rw (c.deref-then-index-2.ensures.value, c.deref-then-index-3.ensures.value, c.in-Cut.is) at c.in_ok-y.ensures in
+    let off : HasOneGate g (mark_of c.loop-x.nodes.items) c.loop-x.free.items s c.in-Cut.d = rw (c.deref-then-index-2.ensures.value, c.deref-then-index-3.ensures.value, c.in-Cut.is) at c.in_ok-y.ensures in
     rw c.deref-in-Cut.ensures.value (order_below g c.loop-x.free.items s.start s.head s.found c.loop-x.invariant.working.graph off.search.search)
 
 pub unmark-requires : goal.unmark-requires
 unmark-requires c =
     let g = c.args.g.now in
     let s = c.step.new.search in
-    let off : IsCutOff g (mark_of c.loop-x.nodes.items) c.loop-x.free.items s c.in-Cut.d = rw (c.deref-then-index-2.ensures.value, c.deref-then-index-3.ensures.value, c.in-Cut.is) at c.in_ok-y.ensures in
+    let off : HasOneGate g (mark_of c.loop-x.nodes.items) c.loop-x.free.items s c.in-Cut.d = rw (c.deref-then-index-2.ensures.value, c.deref-then-index-3.ensures.value, c.in-Cut.is) at c.in_ok-y.ensures in
     let below = order_below g c.loop-x.free.items s.start s.head s.found c.loop-x.invariant.working.graph off.search.search in
     rw c.deref-in-Cut-2.ensures.value (λ k d l. omega (arith, below k d l, c.loop-x.invariant.marks))
 
@@ -86,7 +86,7 @@ pub unmark-requires-in-Cut : goal.unmark-requires-in-Cut
 unmark-requires-in-Cut c =
     let g = c.args.g.now in
     let s = c.step.new.search in
-    let off : IsCutOff g (mark_of c.loop-x.nodes.items) c.loop-x.free.items s c.in-Cut.d = rw (c.deref-then-index-2.ensures.value, c.deref-then-index-3.ensures.value, c.in-Cut.is) at c.in_ok-y.ensures in
+    let off : HasOneGate g (mark_of c.loop-x.nodes.items) c.loop-x.free.items s c.in-Cut.d = rw (c.deref-then-index-2.ensures.value, c.deref-then-index-3.ensures.value, c.in-Cut.is) at c.in_ok-y.ensures in
     let below = order_below g c.loop-x.free.items s.start s.head s.found c.loop-x.invariant.working.graph off.search.search in
     rw c.deref-in-Cut-3.ensures.value (λ k d l. omega (arith, below k d l, c.loop-x.invariant.size))
 
@@ -96,7 +96,7 @@ loop-x-smaller-in-Cut c =
     let s = c.step.new.search in
     let free = c.loop-x.free.items in
     let graph = c.loop-x.invariant.working.graph in
-    let off : IsCutOff g (mark_of c.loop-x.nodes.items) free s c.in-Cut.d = rw (c.deref-then-index-2.ensures.value, c.deref-then-index-3.ensures.value, c.in-Cut.is) at c.in_ok-y.ensures in
+    let off : HasOneGate g (mark_of c.loop-x.nodes.items) free s c.in-Cut.d = rw (c.deref-then-index-2.ensures.value, c.deref-then-index-3.ensures.value, c.in-Cut.is) at c.in_ok-y.ensures in
     let here : IsTrue (has s.found.order.items s.start) = first_in g free s.start s.head s.found graph off.search.search in
     let is_free : mark_of free s.start ≡ true = free_in g free s.start s.head s.found graph off.search.search s.start here in
     let fewer = fewer_free g.nodes (mark_of free) (mark_of c.unmark-in-Cut.new.marks.items) (has s.found.order.items) s.start (omega (arith, mark_below free s.start is_free, c.loop-x.invariant.size)) is_free here
@@ -112,7 +112,7 @@ loop-x-preserved-in-Cut c =
     let free = c.loop-x.free.items in
     let left = mark_of c.unmark.new.marks.items in
     let root = c.args.part.now.root in
-    let off : IsCutOff g (mark_of nodes) free s c.in-Cut.d = rw (c.deref-then-index-2.ensures.value, c.deref-then-index-3.ensures.value, c.in-Cut.is) at c.in_ok-y.ensures in
+    let off : HasOneGate g (mark_of nodes) free s c.in-Cut.d = rw (c.deref-then-index-2.ensures.value, c.deref-then-index-3.ensures.value, c.in-Cut.is) at c.in_ok-y.ensures in
     let nodes_are : (v : ℕ) → left v ≡ minus (mark_of nodes) (has s.found.order.items) v = λ v. c.unmark.ensures.marks v ∙ ap (λ xs. minus (mark_of nodes) (has xs) v) c.deref-in-Cut-2.ensures.value in
     let free_are : (v : ℕ) → mark_of c.unmark-in-Cut.new.marks.items v ≡ minus (mark_of free) (has s.found.order.items) v = λ v. c.unmark-in-Cut.ensures.marks v ∙ ap (λ xs. minus (mark_of free) (has xs) v) c.deref-in-Cut-3.ensures.value in
     let next = divided g root (mark_of nodes) left free s c.in-Cut.d c.loop-x.work c.put_off.new.work off inv.grown (rw c.deref-in-Cut.ensures.value at c.in_ok-put_off-in-Cut.ensures.part)

@@ -1,9 +1,8 @@
 use Rattle.std.proofs.Common.{◌≡◌, refl, false, get_or, arith, length-set, subst, ◌∙◌}
 use Rattle.tomo_base.specs.declared.graph.Hop.{Hop}
 use Rattle.tomo_base.specs.Search.{mark_of}
-use Rattle.gate_search.proofs.Hops.{linked_hop}
 use Rattle.blocks.proofs.Holding.{hop_freed, held_first}
-use Rattle.tomo_base.proofs.Rows.{hops_below}
+use Rattle.tomo_base.proofs.Rows.{hops_below, linked_hop}
 use Rattle.blocks.proofs.growing.begin.Goals as goal
 
 pub index_mut-requires-in-loop-hop : goal.index_mut-requires-in-loop-hop

@@ -5,7 +5,7 @@ use Rattle.tomo_base.specs.Search.{mark_of, entry_at}
 use Rattle.tomo_base.proofs.Counts.{count-less}
 use Rattle.gate_search.proofs.Marks.{still_gone}
 use Rattle.gate_search.proofs.Trees.{is_tree, first_in, free_in, ranked_at}
-use Rattle.blocks.proofs.Holding.{way_begins, way_on, way_holds, only_start}
+use Rattle.blocks.proofs.Holding.{way_begins, way_on, way_holds, way_fewer, only_start}
 use Rattle.blocks.proofs.growing.hold_way.Goals as goal
 
 pub loop-v-init : goal.loop-v-init
@@ -43,22 +43,10 @@ loop-v-preserved c =
 
 pub returns-clause-fewer : goal.returns-clause-fewer
 returns-clause-fewer c =
-    let g = c.args.g.now in
-    let first = c.args.free.now.items in
     let s = c.args.search.now in
-    let graph = c.nodes-count.ensures.graph in
-    let v = c.loop-v.v in
-    let free = c.loop-v.free.items in
     let inv = c.loop-v.invariant in
-    let node = (ranked_at g first s.start s.head s.found graph c.requires.search.search v inv.ranked).0 in
-    let room : v < length free = omega (arith, node, inv.size) in
-    let start_free : mark_of first s.start ≡ true = free_in g first s.start s.head s.found graph c.requires.search.search s.start (first_in g first s.start s.head s.found graph c.requires.search.search) in
     rw c.in_ok-hold-2.ensures.free
-    (count-less g.nodes (mark_of (set free v false)) (mark_of first) v node (get_or-set_same free v false false room) (subst (λ z. mark_of first z ≡ true) (sym c.loop-v-test.false) start_free)
-    (λ u l t. elim (cases_Bool (mark_of first u)) [
-      | inl k ↦ k
-      | inr f ↦ absurd (both_ways (mark_of (set free v false) u) (still_gone free v u room (inv.passed u f)) t)
-    ]))
+    (way_fewer c.args.g.now c.args.free.now.items s c.nodes-count.ensures.graph c.requires.search c.loop-v.v c.loop-v.free.items inv.ranked inv.size c.loop-v-test.false inv.passed)
 
 pub returns-clause-passed : goal.returns-clause-passed
 returns-clause-passed c = λ u f.

@@ -4,7 +4,7 @@ use Rattle.tomo_base.specs.Sets.{has}
 use Rattle.tomo_base.proofs.Links.{joins_comm, linked_below, linked_comm}
 use Rattle.cross_links.specs.Joining.{one_term}
 use Rattle.cross_links.proofs.Tasks.{differ}
-use Rattle.cross_links.proofs.Places.{only_joins}
+use Rattle.tomo_base.proofs.Places.{only_joins}
 use Rattle.cross_links.proofs.Terms.{by_one}
 use Rattle.cross_links.proofs.Naming.{names_recipe}
 use Rattle.cross_links.proofs.crossing.between.Goals as goal

@@ -4,7 +4,7 @@ use Rattle.tomo_base.specs.Sets.{has}
 use Rattle.tomo_base.specs.Table.{JoinsAt}
 use Rattle.tomo_base.proofs.Rows.{any_joins-from}
 use Rattle.ident_laws.proofs.BadParts.{no_bad_part}
-use Rattle.cross_links.proofs.Places.{joins_own}
+use Rattle.tomo_base.proofs.Places.{joins_own}
 use Rattle.cross_links.proofs.crossing.recipe.Goals.{After-links}
 use Rattle.cross_links.proofs.crossing.recipe.Goals as goal
 

@@ -1,14 +1,22 @@
-use Rattle.std.proofs.Common.{reverse, ap, ◌∙◌}
-use Rattle.indep_trees.proofs.Ears.{turned_before, kept_before}
+use Rattle.std.proofs.Common.{◌≡◌, ◌-◌, length, reverse, sym, ap, ◌∙◌, inl, inr}
+use Rattle.tomo_base.specs.Search.{entry_at}
+use Rattle.indep_trees.proofs.Ears.{stands_first, turned_before}
 use Rattle.indep_trees.proofs.placing.faced.Goals as goal
-use Rattle.indep_trees.proofs.placing.faced.Goals.{then-place_of, else-place_of}
+use Rattle.indep_trees.proofs.placing.faced.Goals.{then-order-place, else-order-place}
 
 pub returns-clause-before : goal.returns-clause-before
-returns-clause-before c = elim c.if-place_of.branch [
-  | then-place_of w ↦ turned_before c.args.order.now c.args.ear.now c.if-place_of.faced.items c.place_of.result c.place_of-2.result c.requires.some
-      (rw w.faced-is (w.reverse.ensures.items ∙ ap reverse (c.in_ok-faced.ensures.items_if_clones_equal (λ y h e. e))))
-      w.if-place_of.true c.place_of-2.ensures.below c.place_of.ensures.place c.place_of-2.ensures.place
-  | else-place_of w ↦ kept_before c.args.order.now c.args.ear.now c.if-place_of.faced.items c.place_of.result c.place_of-2.result
-      (rw w.faced-is (c.in_ok-faced.ensures.items_if_clones_equal (λ y h e. e)))
-      w.if-place_of.false c.place_of.ensures.below c.place_of.ensures.place c.place_of-2.ensures.place c.requires.differ
-]
+returns-clause-before c =
+    let order = c.args.order.now in
+    let ear = c.args.ear.now in
+    let first = entry_at ear 0 in
+    let last = entry_at ear (length ear - 1) in
+    let place = c.first_place-place.result in
+    let copied = c.in_ok-faced.ensures.items_if_clones_equal (λ x y h. h) in
+    let none = c.first_place-place.ensures.first in
+    elim c.if-order-place.branch [
+      | then-order-place w ↦
+          let at : entry_at order place ≡ last = elim c.first_place-place.ensures.place [ inl is_first ↦ absurd (w.if-order-place.true is_first) | inr is_last ↦ is_last ] in
+          turned_before order ear c.if-order-place.faced.items c.requires.some (rw w.faced-is (w.reverse.ensures.items ∙ ap reverse copied))
+          (stands_first order place last first at (λ same. c.requires.differ (sym same)) (λ k l. (none k l).0) c.requires.first)
+      | else-order-place w ↦ rw (w.faced-is, copied) (stands_first order place first last w.if-order-place.false c.requires.differ (λ k l. (none k l).1) c.requires.last)
+    ]

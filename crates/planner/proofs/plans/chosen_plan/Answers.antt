@@ -9,12 +9,6 @@ use Rattle.planner.proofs.Buildable.{measured_buildable}
 use Rattle.planner.proofs.Whole.{all_planned_with}
 use Rattle.planner.proofs.plans.chosen_plan.Goals as goal
 
-pub place_with-requires-clause-connected : goal.place_with-requires-clause-connected
-place_with-requires-clause-connected c = rw c.graph.ensures.graph c.graph.ensures.topology.connected
-
-pub pockets_with-requires-clause-connected : goal.pockets_with-requires-clause-connected
-pockets_with-requires-clause-connected c = rw c.graph-2.ensures.graph c.graph-2.ensures.topology.connected
-
 pub pockets_with-requires-clause-kept : goal.pockets_with-requires-clause-kept
 pockets_with-requires-clause-kept c = rw c.graph-2.ensures.graph (λ x l k other.
     let g = c.args.t.now.graph in

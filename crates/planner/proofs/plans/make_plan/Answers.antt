@@ -5,12 +5,6 @@ use Rattle.planner.proofs.Buildable.{measured_buildable}
 use Rattle.planner.proofs.Whole.{all_planned}
 use Rattle.planner.proofs.plans.make_plan.Goals as goal
 
-pub mmp-requires-clause-connected : goal.mmp-requires-clause-connected
-mmp-requires-clause-connected c = rw c.graph.ensures.graph c.graph.ensures.topology.connected
-
-pub pockets-requires-clause-connected : goal.pockets-requires-clause-connected
-pockets-requires-clause-connected c = rw c.graph-2.ensures.graph c.graph-2.ensures.topology.connected
-
 pub build-requires-clause-parts : goal.build-requires-clause-parts
 build-requires-clause-parts c = measured_buildable _ _ _ _ c.in_ok-made.ensures.measures
 

@@ -4,9 +4,6 @@ use Rattle.tomo_base.proofs.Ascending.{All-from_has}
 use Rattle.planner.proofs.Allowing.{impossible}
 use Rattle.planner.proofs.plans.make_plan_with.Goals as goal
 
-pub judge-requires-clause-connected : goal.judge-requires-clause-connected
-judge-requires-clause-connected c = rw c.graph-2.ensures.graph c.graph-2.ensures.topology.connected
-
 pub judge-requires-clause-nodes : goal.judge-requires-clause-nodes
 judge-requires-clause-nodes c = rw c.graph-2.ensures.graph (All-from_has (λ v. v < c.args.t.now.graph.nodes) c.in_ok-unbarred.unbarred
     (λ v there. ltb-true v c.args.t.now.graph.nodes (and_parts _ _ (sym ((rw c.graph.ensures.graph at c.in_ok-unbarred.ensures.nodes) v) ∙ there)).0))

@@ -3,22 +3,22 @@ use Rattle.stpc_paths.proofs.Laying.{root_link, root_below, paths_more, paths_ro
 use Rattle.stpc_paths.proofs.paths.lay_paths.Goals as goal
 
 pub path_of-requires-clause-node : goal.path_of-requires-clause-node
-path_of-requires-clause-node c = (root_below c.args.t.now c.args.roots.now c.loop-root.root-index _ c.requires.forest c.requires.roots c.loop-root-test.true).0
+path_of-requires-clause-node c = (root_below c.args.t.now c.args.roots.now c.loop-root.root-index _ c.requires.rooted.forest c.requires.rooted.roots c.loop-root-test.true).0
 
 pub path_of-requires-clause-other : goal.path_of-requires-clause-other
-path_of-requires-clause-other c = (root_below c.args.t.now c.args.roots.now c.loop-root.root-index _ c.requires.forest c.requires.roots c.loop-root-test.true).1
+path_of-requires-clause-other c = (root_below c.args.t.now c.args.roots.now c.loop-root.root-index _ c.requires.rooted.forest c.requires.rooted.roots c.loop-root-test.true).1
 
 pub path_of-requires-clause-owned : goal.path_of-requires-clause-owned
-path_of-requires-clause-owned c = (root_link c.args.t.now c.args.roots.now c.loop-root.root-index _ c.requires.roots c.loop-root-test.true).2.owned
+path_of-requires-clause-owned c = (root_link c.args.t.now c.args.roots.now c.loop-root.root-index _ c.requires.rooted.roots c.loop-root-test.true).2.owned
 
 pub add-requires-clause-nodes : goal.add-requires-clause-nodes
 add-requires-clause-nodes c =
-    rw c.deref.ensures.value (paths_room c.args.t.now c.args.roots.now c.loop-root.root-index c.loop-root.pool c.in_ok-path.path.items _ c.requires.forest (omega (arith, c.requires.nodes, c.requires.few_nodes)) c.requires.few_roots c.requires.roots
+    rw c.deref.ensures.value (paths_room c.args.t.now c.args.roots.now c.loop-root.root-index c.loop-root.pool c.in_ok-path.path.items _ c.requires.rooted.forest (omega (arith, c.requires.nodes, c.requires.rooted.few_nodes)) c.requires.rooted.few_roots c.requires.rooted.roots
     c.loop-root-test.true c.in_ok-path.ensures c.loop-root.invariant)
 
 pub loop-root-preserved : goal.loop-root-preserved
 loop-root-preserved c =
-    rw (c.in_ok-add.ensures.ok, c.deref.ensures.value) (paths_more c.args.t.now c.args.roots.now c.loop-root.root-index c.loop-root.pool c.in_ok-path.path.items _ c.requires.forest (omega (arith, c.requires.nodes, c.requires.few_nodes)) c.requires.roots
+    rw (c.in_ok-add.ensures.ok, c.deref.ensures.value) (paths_more c.args.t.now c.args.roots.now c.loop-root.root-index c.loop-root.pool c.in_ok-path.path.items _ c.requires.rooted.forest (omega (arith, c.requires.nodes, c.requires.rooted.few_nodes)) c.requires.rooted.roots
     c.loop-root-test.true c.in_ok-path.ensures c.loop-root.invariant)
 
 pub returns : goal.returns

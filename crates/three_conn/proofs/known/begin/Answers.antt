@@ -1,9 +1,8 @@
 use Rattle.std.proofs.Common.{◌≡◌, refl, true, get_or, inl, inr, arith, sym, ◌∙◌, subst, length-set}
 use Rattle.tomo_base.specs.declared.graph.Hop.{Hop}
 use Rattle.tomo_base.specs.Search.{mark_of}
-use Rattle.tomo_base.proofs.Rows.{hops_below}
+use Rattle.tomo_base.proofs.Rows.{hops_below, linked_hop}
 use Rattle.three_conn.proofs.Holding.{held_first}
-use Rattle.gate_search.proofs.Hops.{linked_hop}
 use Rattle.three_conn.proofs.Marking.{hop_marked}
 use Rattle.three_conn.proofs.known.begin.Goals as goal
 

@@ -11,10 +11,8 @@ use Rattle.unit_flow.proofs.search.scan.Goals as goal
 pub look-requires-in-loop-hop-clause-inside : goal.look-requires-in-loop-hop-clause-inside
 look-requires-in-loop-hop-clause-inside c =
     let t = asked c.args.g.now c.args.ask.now in
-    let u = c.index.result.now.node in
-    let e : Hop = record { node = 0; link = 0 } in
-    let h : Hop = get_or c.hops-hop-items.result.now c.loop-hop.hop-index e in
-    (jb t c.requires.asked.task u h.node (hop_near t u c.hops-hop-items.result.now c.loop-hop.hop-index e c.hops-hop-items.ensures c.loop-hop-test.true)).1
+    let near = hop_near t c.index.result.now.node c.hops-hop-items.result.now c.loop-hop.hop-index (record { node = 0; link = 0 }) c.hops-hop-items.ensures c.loop-hop-test.true in
+    (jb t c.requires.over.asked.task _ _ near).1
 
 pub look-requires-in-loop-hop-clause-near : goal.look-requires-in-loop-hop-clause-near
 look-requires-in-loop-hop-clause-near c =

@@ -18,10 +18,13 @@ load_paths-requires-clause-inside c =
 pub load_paths-requires-clause-whole : goal.load_paths-requires-clause-whole
 load_paths-requires-clause-whole c = paths_whole (asked c.args.g.now c.args.ask.now) c.requires.asked.task c.args.paths.now c.requires.flow
 
-pub search-requires-clause-array : goal.search-requires-clause-array
-search-requires-clause-array c = record {
-  size = ap (λ z. length z) c.deref.ensures.value ∙ c.in_ok-before.ensures.size ∙ c.nodes-count.ensures.nodes;
-  arcs = loaded_arcs (asked c.args.g.now c.args.ask.now) c.requires.asked.task c.args.paths.now c.requires.flow c.in_ok-before.before.items c.in_ok-before.ensures.loaded c.deref.ensures.value;
+pub search-requires-clause-over : goal.search-requires-clause-over
+search-requires-clause-over c = record {
+  asked = c.requires.asked;
+  array = record {
+    size = ap (λ z. length z) c.deref.ensures.value ∙ c.in_ok-before.ensures.size ∙ c.nodes-count.ensures.nodes;
+    arcs = loaded_arcs (asked c.args.g.now c.args.ask.now) c.requires.asked.task c.args.paths.now c.requires.flow c.in_ok-before.before.items c.in_ok-before.ensures.loaded c.deref.ensures.value;
+  };
 }
 
 pub search-requires-clause-reaching : goal.search-requires-clause-reaching

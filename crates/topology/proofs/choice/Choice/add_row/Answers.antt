@@ -1,4 +1,4 @@
-use Rattle.std.proofs.Common.{◌≡◌, ◌<◌, Bool, ℕ, List, slice_get, Some, arith, ap, sym, ◌∙◌, refl}
+use Rattle.std.proofs.Common.{◌≡◌, ◌<◌, Bool, false, ℕ, List, slice_get, Some, arith, ap, sym, ◌∙◌, refl}
 use Rattle.std.proofs.lemmas.Option.{slice_get_within}
 use Rattle.tomo_base.specs.Limits.{graph_node_limit}
 use Rattle.tomo_base.specs.Sets.{has}
@@ -9,6 +9,7 @@ use Rattle.topology.specs.Topology.{Topo, IsTopology}
 use Rattle.topology.specs.Choice.{opposite, wished}
 use Rattle.topology.proofs.Choices.{fault_clash, fault_none, choice_more}
 use Rattle.topology.proofs.choice.Choice.add_row.Goals as goal
+use Rattle.topology.proofs.choice.Choice.add_row.Goals.{Else-has}
 
 -- a set was asked for a node, which was that of the opposite wish
 asked : (choice : Choice) (wish other : Wish) (set : List ℕ) (node : ℕ) (b : Bool) → other ≡ opposite wish → set ≡ wished choice other → b ≡ has set node → has (wished choice (opposite wish)) node ≡ b
@@ -29,24 +30,22 @@ insert-requires c = node_low c.args.t.now _ c.in_ok-wish.node c.in_ok-wish.ensur
 pub insert-requires-in-Not : goal.insert-requires-in-Not
 insert-requires-in-Not c = node_low c.args.t.now _ c.in_ok-wish.node c.in_ok-wish.ensures.topology c.in_ok-wish.ensures.wish.known
 
+-- the node has not the opposite wish
+free : (c : Else-has) → has (wished c.args.self.now (opposite c.in_ok-wish.wish)) c.in_ok-wish.node ≡ false
+free c = asked c.args.self.now c.in_ok-wish.wish _ _ c.in_ok-wish.node _ c.opposite.ensures c.wished.ensures c.has.ensures ∙ c.if-has.false
+
 pub returns-in_ok-insert-in-Must-clause-takes : goal.returns-in_ok-insert-in-Must-clause-takes
 returns-in_ok-insert-in-Must-clause-takes c =
-    let free = asked c.args.self.now c.in_ok-wish.wish _ _ c.in_ok-wish.node _ c.opposite.ensures c.wished.ensures c.has.ensures ∙ c.if-has.false in
     choice_more c.args.t.now c.args.rows.now.closed c.args.place c.args.self.now _ Must c.in_ok-wish.node c.requires.place c.in_ok-wish.ensures.topology c.requires.so_far
-    (rw c.in-Must.is at c.in_ok-wish.ensures.wish) c.in_ok-insert-in-Must.ensures.nodes c.in_ok-insert-in-Must.ensures.ascending refl (rw c.in-Must.is at free)
+    (rw c.in-Must.is at c.in_ok-wish.ensures.wish) c.in_ok-insert-in-Must.ensures.nodes c.in_ok-insert-in-Must.ensures.ascending refl (rw c.in-Must.is at (free (goal.at.returns-in_ok-insert-in-Must-clause-takes c).Else-has))
 
 pub returns-in_ok-insert-in-Must-clause-fine : goal.returns-in_ok-insert-in-Must-clause-fine
-returns-in_ok-insert-in-Must-clause-fine c =
-    let free = asked c.args.self.now c.in_ok-wish.wish _ _ c.in_ok-wish.node _ c.opposite.ensures c.wished.ensures c.has.ensures ∙ c.if-has.false in
-    fault_none _ _ _ c.args.self.now c.in_ok-wish.wish c.in_ok-wish.node c.requires.so_far c.in_ok-wish.ensures.wish free
+returns-in_ok-insert-in-Must-clause-fine c = fault_none _ _ _ c.args.self.now c.in_ok-wish.wish c.in_ok-wish.node c.requires.so_far c.in_ok-wish.ensures.wish (free (goal.at.returns-in_ok-insert-in-Must-clause-fine c).Else-has)
 
 pub returns-in_ok-insert-in-Not-clause-takes : goal.returns-in_ok-insert-in-Not-clause-takes
 returns-in_ok-insert-in-Not-clause-takes c =
-    let free = asked c.args.self.now c.in_ok-wish.wish _ _ c.in_ok-wish.node _ c.opposite.ensures c.wished.ensures c.has.ensures ∙ c.if-has.false in
     choice_more c.args.t.now c.args.rows.now.closed c.args.place c.args.self.now _ Not c.in_ok-wish.node c.requires.place c.in_ok-wish.ensures.topology c.requires.so_far
-    (rw c.in-Not.is at c.in_ok-wish.ensures.wish) c.in_ok-insert-in-Not.ensures.nodes c.in_ok-insert-in-Not.ensures.ascending refl (rw c.in-Not.is at free)
+    (rw c.in-Not.is at c.in_ok-wish.ensures.wish) c.in_ok-insert-in-Not.ensures.nodes c.in_ok-insert-in-Not.ensures.ascending refl (rw c.in-Not.is at (free (goal.at.returns-in_ok-insert-in-Not-clause-takes c).Else-has))
 
 pub returns-in_ok-insert-in-Not-clause-fine : goal.returns-in_ok-insert-in-Not-clause-fine
-returns-in_ok-insert-in-Not-clause-fine c =
-    let free = asked c.args.self.now c.in_ok-wish.wish _ _ c.in_ok-wish.node _ c.opposite.ensures c.wished.ensures c.has.ensures ∙ c.if-has.false in
-    fault_none _ _ _ c.args.self.now c.in_ok-wish.wish c.in_ok-wish.node c.requires.so_far c.in_ok-wish.ensures.wish free
+returns-in_ok-insert-in-Not-clause-fine c = fault_none _ _ _ c.args.self.now c.in_ok-wish.wish c.in_ok-wish.node c.requires.so_far c.in_ok-wish.ensures.wish (free (goal.at.returns-in_ok-insert-in-Not-clause-fine c).Else-has)

@@ -1,0 +1,5 @@
+mod connectivity;
+mod judging;
+mod parts;
+mod placements;
+mod shapes;

@@ -1,7 +1,0 @@
-use Rattle.trials_plans.proofs.checking.report_of_lowest.Goals as goal
-
-pub place-requires-clause-connected : goal.place-requires-clause-connected
-place-requires-clause-connected c = rw c.graph.ensures.graph c.graph.ensures.topology.connected
-
-pub plan_for-requires-clause-identifies : goal.plan_for-requires-clause-identifies
-plan_for-requires-clause-identifies c = (rw c.graph.ensures.graph at c.in_ok-monitors.ensures.lowest).identifies

@@ -1,0 +1,10 @@
+mod checking;
+mod drills;
+mod ears;
+mod independent;
+mod plans;
+mod small;
+mod solving;
+mod texts;
+mod tree_paths;
+mod written;

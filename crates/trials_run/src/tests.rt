@@ -1,0 +1,9 @@
+mod changes;
+mod choosing;
+mod faults;
+mod migrating;
+mod planning;
+mod refusals;
+mod solving;
+mod stage;
+mod telling;

@@ -1,5 +1,6 @@
 // The blocks and the cut vertices of a connected graph.
 ghost use Rattle.std.specs.Prelude.{ℕ, ◌≡◌, ◌≤◌, ◌<◌, ◌*◌, ◌↔◌, [], ◌∷◌, true, length, set, All, IsTrue, IfOk, OnOk};
+ghost use Rattle.tomo_base.specs.Limits.{graph_node_limit};
 ghost use Rattle.tomo_base.specs.Sets.{has, members, without};
 ghost use Rattle.tomo_base.specs.Search.{mark_of};
 ghost use Rattle.tomo_base.specs.Walks.{IsConnected, IsConnectedIn, everything};
@@ -173,7 +174,7 @@ fn cut_up(alloc: Global, g: &Graph) -> Result<Work, NoMemory>
 
 // The set of the nodes with a mark.
 fn set_marked(alloc: Global, marks: &[bool]) -> Result<NodeSet, NoMemory>
-    requires { length marks.now ≤ 10000 }
+    requires { length marks.now ≤ graph_node_limit }
     ensures nodes { IfOk result (λ s. (v : ℕ) → has s v ≡ mark_of marks.now v) }
     ensures set { IfOk result (IsSetBelow (length marks.now)) }
 {

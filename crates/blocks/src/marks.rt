@@ -1,5 +1,6 @@
 // Marks on nodes.
 ghost use Rattle.std.specs.Prelude.{ℕ, ◌≡◌, ◌≤◌, ◌<◌, length, All, IfOk};
+ghost use Rattle.tomo_base.specs.Limits.{graph_node_limit};
 ghost use Rattle.tomo_base.specs.Sets.{has, members, minus};
 ghost use Rattle.tomo_base.specs.Search.{mark_of};
 
@@ -8,7 +9,7 @@ use tomo_base::NoMemory;
 
 // The nodes with a mark, ascending.
 pub fn marked(alloc: Global, marks: &[bool]) -> Result<Vec<u32>, NoMemory>
-    requires { length marks.now ≤ 10000 }
+    requires { length marks.now ≤ graph_node_limit }
     ensures { IfOk result (λ nodes. nodes.items ≡ members (length marks.now) (mark_of marks.now)) }
 {
     let mut nodes = Vec::new(alloc);

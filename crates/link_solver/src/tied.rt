@@ -6,7 +6,7 @@ ghost use Rattle.tomo_base.specs.Walks.{IsWalk};
 ghost use Rattle.plan_form.specs.Building.{sum_at};
 ghost use Rattle.plan_form.specs.Good.{AreGoodPaths, AreGoodRecipes};
 ghost use Rattle.plan_form.specs.Tied.{recipe_between, terms_along, AreTied};
-ghost use Rattle.link_solver.specs.Tally.{other as one_other, others, GrewBy};
+ghost use Rattle.link_solver.specs.Tally.{other, others, GrewBy};
 
 use plan_form::Plan;
 use simple_path::{Recipe, Recipes, Term};
@@ -28,8 +28,8 @@ fn plus(sum: Sum, term: Term) -> Option<Sum>
 }
 
 // 1 for a sum other than 0.
-fn other(sum: Sum) -> usize
-    ensures { result ≡ one_other sum }
+fn one_if_other(sum: Sum) -> usize
+    ensures { result ≡ other sum }
 {
     if sum.value == 0 { 0 } else { 1 }
 }
@@ -46,7 +46,7 @@ fn add_term(sums: &mut [Sum], count: usize, term: Term) -> Option<usize>
     let before = sums[term.path as usize];
     let after = plus(before, term)?;
     sums[term.path as usize] = after;
-    Some(count - other(before) + other(after))
+    Some(count - one_if_other(before) + one_if_other(after))
 }
 
 // Adds the terms of a recipe.

@@ -1,7 +1,7 @@
 -- One cut: what the work becomes, in the marks and lists of the program.
-use Rattle.std.proofs.Common.{◌≡◌, ℕ, ◌<◌, Bool, true, not, ◌==◌, List, [], ◌∷◌, ◌++◌, set, IsTrue, Vec, refl, sym, ap, ◌∙◌, arith}
+use Rattle.std.proofs.Common.{◌≡◌, ℕ, ◌<◌, Bool, true, not, List, [], ◌∷◌, ◌++◌, set, IsTrue, Vec, refl, sym, ap, ◌∙◌, arith}
 use Rattle.std.specs.Global.{Global}
-use Rattle.std.proofs.lemmas.Bool.{and_right, or_right, eq-eqb}
+use Rattle.std.proofs.lemmas.Bool.{and_right}
 use Rattle.tomo_base.specs.Network.{Network}
 use Rattle.tomo_base.specs.Sets.{has, count, minus, without, Within}
 use Rattle.tomo_base.specs.Search.{mark_of}
@@ -9,11 +9,10 @@ use Rattle.tomo_base.proofs.Counts.{count-same, count-less}
 use Rattle.tomo_base.proofs.Parting.{minus-out}
 use Rattle.tomo_base.proofs.Reaching.{is_node}
 use Rattle.gate_search.specs.declared.search.GateSearch.{GateSearch}
-use Rattle.blocks.specs.declared.block_list.Part.{Part}
 use Rattle.blocks.specs.declared.block_list.Work.{Work}
 use Rattle.blocks.specs.Sides.{AreSides}
 use Rattle.blocks.specs.Growing.{IsGrown, HasOneGate}
-use Rattle.blocks.specs.Working.{todo_sets, found_sets, IsUncut, IsPutOff, Working, weight_of}
+use Rattle.blocks.specs.Working.{sets_in, IsPutOff, Working, weight_of}
 use Rattle.blocks.proofs.CutSets.{Cut}
 use Rattle.blocks.proofs.CuttingAt.{cuts_same}
 use Rattle.blocks.proofs.Working.{cutting-same}
@@ -30,10 +29,10 @@ same_hand g S T work same w =
     let weight_is : weight_of g (T ∷ []) work ≡ weight_of g (S ∷ []) work = omega (arith, counts) in (
       record {
         graph = w.graph;
-        cutting = cutting-same g (is_node g) S T (todo_sets work.todo.items) (found_sets work.found.items) st ts w.cutting;
-        cuts = cuts_same g (is_node g) S T (todo_sets work.todo.items) (found_sets work.found.items) (mark_of work.cuts.items) st ts w.cuts;
+        cutting = cutting-same g (is_node g) S T (sets_in work.todo.items) (sets_in work.found.items) st ts w.cutting;
+        cuts = cuts_same g (is_node g) S T (sets_in work.todo.items) (sets_in work.found.items) (mark_of work.cuts.items) st ts w.cuts;
         marks = w.marks;
-        parts = w.parts;
+        todo_nodes = w.todo_nodes;
         found_nodes = w.found_nodes;
         few = omega (arith, w.few, weight_is);
       },
@@ -49,26 +48,23 @@ divided g root w left free s d old new off h put found_is cuts_is left_is work =
     let cut : Cut g w d K = cut_off g root w free s d work.graph off h in
     let rest = rest_is w left K d g cut left_is in
     let mid : Work = record { todo = old.todo; found = old.found; cuts = new.cuts } in
-    let two = cut_in_two g w d K (has put.part.nodes.items) left old mid refl refl cuts_is cut (λ v m. put.nodes v ∙ m) (λ v m. sym (put.nodes v) ∙ m) rest.0 rest.1 work in
-    let part : IsUncut g put.part = record { set = put.set; root = put.nodes put.part.root ∙ or_right (K put.part.root) (put.part.root == d) (eq-eqb put.part.root d put.root) } in
-    let last = put_first g left mid new put.part put.pushed found_is refl part two.0 in
+    let two = cut_in_two g w d K (has put.part.items) left old mid refl refl cuts_is cut (λ v m. put.nodes v ∙ m) (λ v m. sym (put.nodes v) ∙ m) rest.0 rest.1 work in
+    let last = put_first g left mid new put.part put.pushed found_is refl put.set two.0 in
     (last.0, omega (arith, two.1, last.1))
 
 -- free nodes get fewer where the start of a search is one of those that are taken away
 pub fewer_free : (n : ℕ) (free next K : ℕ → Bool) (x : ℕ) → x < n → free x ≡ true → IsTrue (K x) → ((v : ℕ) → next v ≡ minus free K v) → count n next < count n free
 fewer_free n free next K x l t k are = count-less n next free x l (are x ∙ and_right (free x) (not (K x)) (ap not k)) t (λ v m h. (minus-out free K v (sym (are v) ∙ h)).0)
 
--- a root that cuts its part into two, which are put on the list one after the other
-pub divided_at_root : (g : Network) (p : Part) (near far : Vec ℕ Global) (old mid new : Work) → AreSides g p.nodes.items p.root near.items far.items
-    → mid.todo.items ≡ old.todo.items ++ record { nodes = near; root = p.root } ∷ [] → mid.found.items ≡ old.found.items → mid.cuts.items ≡ set old.cuts.items p.root true
-    → new.todo.items ≡ mid.todo.items ++ record { nodes = far; root = p.root } ∷ [] → new.found.items ≡ mid.found.items → new.cuts.items ≡ mid.cuts.items
-    → Working g (has p.nodes.items ∷ []) old → Working g [] new × (weight_of g [] new < weight_of g (has p.nodes.items ∷ []) old)
-divided_at_root g p near far old mid new sides first_is found_is cuts_is second_is found_too cuts_too work =
-    let cut = sides_cut g p.nodes.items p.root near.items far.items sides in
+-- a node that cuts its part into two, which are put on the list one after the other
+pub divided_at_root : (g : Network) (p : List ℕ) (root : ℕ) (near far : Vec ℕ Global) (old mid new : Work) → AreSides g p root near.items far.items
+    → mid.todo.items ≡ old.todo.items ++ near ∷ [] → mid.found.items ≡ old.found.items → mid.cuts.items ≡ set old.cuts.items root true
+    → new.todo.items ≡ mid.todo.items ++ far ∷ [] → new.found.items ≡ mid.found.items → new.cuts.items ≡ mid.cuts.items
+    → Working g (has p ∷ []) old → Working g [] new × (weight_of g [] new < weight_of g (has p ∷ []) old)
+divided_at_root g p root near far old mid new sides first_is found_is cuts_is second_is found_too cuts_too work =
+    let cut = sides_cut g p root near.items far.items sides in
     let start : Work = record { todo = old.todo; found = old.found; cuts = mid.cuts } in
-    let near_part : Part = record { nodes = near; root = p.root } in
-    let far_part : Part = record { nodes = far; root = p.root } in
-    let two = cut_in_two g (has p.nodes.items) p.root (without (has near.items) p.root) (has near.items) (has far.items) old start refl refl cuts_is cut.0 cut.1 cut.2 cut.3 cut.4 work in
-    let first = put_first g (has far.items) start mid near_part first_is found_is refl (record { set = sides.near_set; root = sides.near_cut }) two.0 in
-    let second = put_last g mid new far_part second_is found_too cuts_too (record { set = sides.far_set; root = sides.far_cut }) first.0 in
+    let two = cut_in_two g (has p) root (without (has near.items) root) (has near.items) (has far.items) old start refl refl cuts_is cut.0 cut.1 cut.2 cut.3 cut.4 work in
+    let first = put_first g (has far.items) start mid near first_is found_is refl sides.near_set two.0 in
+    let second = put_last g mid new far second_is found_too cuts_too sides.far_set first.0 in
     (second.0, omega (arith, two.1, first.1, second.1))

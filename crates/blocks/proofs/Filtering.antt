@@ -1,17 +1,16 @@
 -- Lists of nodes that are kept by a test, marks on nodes, and ascending lists of nodes.
-use Rattle.std.proofs.Common.{◌≡◌, ◌≢◌, ℕ, ◌+◌, ◌<◌, Bool, true, false, not, ◌&&◌, ◌||◌, ◌==◌, List, [], ◌∷◌, ◌++◌, length, get_or, set, take, refl, sym, ap, ◌∙◌, inl, inr, arith, get_or-set_same, get_or-set_other, replicate}
+use Rattle.std.proofs.Common.{◌≡◌, ◌≢◌, ℕ, ◌+◌, ◌<◌, Bool, true, false, not, ◌&&◌, ◌||◌, ◌==◌, List, [], ◌∷◌, ◌++◌, length, get_or, set, take, refl, sym, ap, ◌∙◌, inl, inr, arith, get_or-set_same, get_or-set_other}
 use Rattle.std.specs.List.{filter}
 use Rattle.std.specs.List.Sorted.{IsStrictlyIncreasing}
-use Rattle.std.proofs.lemmas.Bool.{cases_eq, cases_lt, cases_Bool, or_cases, or_left, or_right, and_parts, eqb-true, eq-eqb, ne_eqb, true≢false, and_right}
-use Rattle.std.proofs.lemmas.List.{take_more, append-nil, length-replicate, get_or-replicate, get_or_past}
+use Rattle.std.proofs.lemmas.Bool.{cases_eq, cases_Bool, or_cases, or_left, or_right, and_parts, eqb-true, eq-eqb, ne_eqb, true≢false, and_right}
+use Rattle.std.proofs.lemmas.List.{take_more, append-nil}
 use Rattle.std.proofs.lemmas.List.Elements.{filter-append}
 use Rattle.std.proofs.lemmas.List.Kept.{IsStrictlyIncreasing-filter}
-use Rattle.tomo_base.specs.Sets.{has, members, minus, without}
+use Rattle.tomo_base.specs.Sets.{has, minus, without, Within}
 use Rattle.tomo_base.specs.Search.{mark_of}
 use Rattle.tomo_base.specs.SetLists.{IsSetBelow}
-use Rattle.tomo_base.proofs.Members.{has-append, has-members, members_below}
-use Rattle.tomo_base.proofs.Ascending.{All-has, All-from_has, members_ascend}
-use Rattle.gate_search.proofs.Marks.{mark_below}
+use Rattle.tomo_base.proofs.Members.{has-append}
+use Rattle.tomo_base.proofs.Ascending.{All-has, All-from_has}
 
 -- one number more that passes the test
 pub filter_more : (p : ℕ → Bool) (xs kept : List ℕ) (i d x : ℕ) → i < length xs → x ≡ get_or xs i d → p x ≡ true → kept ≡ filter p (take i xs) → kept ++ x ∷ [] ≡ filter p (take (i + 1) xs)
@@ -112,16 +111,9 @@ has-next xs i d x w old l same before =
     regroup : (a b : Bool) → (a || b) ≡ (b || (a || false))
     regroup a b = grind arith
 
--- the marked nodes
-pub marked_has : (marks : List Bool) (v : ℕ) → has (members (length marks) (mark_of marks)) v ≡ mark_of marks v
-marked_has marks v = elim (cases_lt v (length marks)) [
-  | inl l ↦ has-members (length marks) (mark_of marks) v l
-  | inr ge ↦ members_below (length marks) (mark_of marks) v ge ∙ sym (get_or_past marks v false ge)
+-- where all that has a mark stands in the list, what is kept is what has a mark
+pub has-marked : (marks : List Bool) (xs : List ℕ) → Within (mark_of marks) (has xs) → (v : ℕ) → has (filter (mark_of marks) xs) v ≡ mark_of marks v
+has-marked marks xs inside v = has-filter (mark_of marks) xs v ∙ elim (cases_Bool (mark_of marks v)) [
+  | inl t ↦ rw (t, inside v t) refl
+  | inr f ↦ rw f (and_right (has xs v) false refl)
 ]
-
--- are a set
-pub marked_set : (n : ℕ) (marks : List Bool) → length marks ≡ n → IsSetBelow n (members (length marks) (mark_of marks))
-marked_set n marks size = record {
-  ascending = members_ascend (length marks) (mark_of marks);
-  below = All-from_has (λ v. v < n) (members (length marks) (mark_of marks)) (λ v h. omega (arith, mark_below marks v (sym (marked_has marks v) ∙ h), size));
-}

@@ -20,63 +20,62 @@ use Rattle.tomo_base.proofs.Picks.{count-within}
 use Rattle.tomo_base.proofs.Reaching.{is_node, nodes_in, is_node-from, is_node_below, connected-joined, joined-connected}
 use Rattle.tomo_base.proofs.Walks.{connected_inside}
 use Rattle.gate_search.proofs.Marks.{mark_below, mark_more}
-use Rattle.blocks.specs.declared.block_list.Part.{Part}
 use Rattle.blocks.specs.declared.block_list.Work.{Work}
 use Rattle.blocks.specs.Cutting.{Each, Ready, Cutting, AreCuts, weight}
-use Rattle.blocks.specs.Working.{todo_sets, found_sets, IsUncut, Working, weight_of}
+use Rattle.blocks.specs.Working.{sets_in, Working, weight_of}
 use Rattle.blocks.proofs.SameSets.{contains_map}
 use Rattle.blocks.proofs.SetLists.{each-map}
 use Rattle.blocks.proofs.CutSets.{Block, Cut, rest, cut-count}
 use Rattle.blocks.proofs.Cutting.{cutting-start, cutting-ready, cutting-cut, cutting-end}
 use Rattle.blocks.proofs.CuttingAt.{cuts_none, cuts_more, cuts_ready, cuts_swap, cuts_same}
-use Rattle.blocks.proofs.Working.{contains_reverse, reverse_contains, each_at, some_at, todo_push, found_push, cutting-same, cutting-swap, block-to, block-from, same_test}
+use Rattle.blocks.proofs.Working.{contains_reverse, reverse_contains, each_at, some_at, sets_push, cutting-same, cutting-swap, block-to, block-from, same_test}
 
 -- ---- the beginning
 
 -- at first all nodes are to be cut
-pub begun : (g : Network) (w : Work) (p : Part) → IsGraph g → IsConnected g → 2 ≤ g.nodes → p.nodes.items ≡ members g.nodes everything → p.root ≡ 0 → w.todo.items ≡ p ∷ [] → w.found.items ≡ []
+pub begun : (g : Network) (w : Work) (p : Vec ℕ Global) → IsGraph g → IsConnected g → 2 ≤ g.nodes → p.items ≡ members g.nodes everything → w.todo.items ≡ p ∷ [] → w.found.items ≡ []
     → length w.cuts.items ≡ g.nodes → ((v : ℕ) → mark_of w.cuts.items v ≡ false) → Working g [] w
-begun g w p graph connected two all root todo_is found_is size bare =
+begun g w p graph connected two all todo_is found_is size bare =
     let n = g.nodes in
     let V : ℕ → Bool = is_node g in
     let node : (v : ℕ) → IsTrue (V v) → v < n = λ v m. is_node_below g v m in
-    let has_all : (v : ℕ) → v < n → has p.nodes.items v ≡ true = λ v l. ap (λ xs. has xs v) all ∙ has-members n everything v l in
-    let below : (v : ℕ) → IsTrue (has p.nodes.items v) → v < n = λ v h. elim (cases_lt v n) [
+    let has_all : (v : ℕ) → v < n → has p.items v ≡ true = λ v l. ap (λ xs. has xs v) all ∙ has-members n everything v l in
+    let below : (v : ℕ) → IsTrue (has p.items v) → v < n = λ v h. elim (cases_lt v n) [
       | inl l ↦ l
-      | inr ge ↦ absurd (both_ways (has p.nodes.items v) (ap (λ xs. has xs v) all ∙ members_below n everything v ge) h)
+      | inr ge ↦ absurd (both_ways (has p.items v) (ap (λ xs. has xs v) all ∙ members_below n everything v ge) h)
     ] in
-    let to : Within V (has p.nodes.items) = λ v m. has_all v (node v m) in
-    let from : Within (has p.nodes.items) V = λ v h. is_node-from g v (below v h) in
+    let to : Within V (has p.items) = λ v m. has_all v (node v m) in
+    let from : Within (has p.items) V = λ v h. is_node-from g v (below v h) in
     let size_is : count n V ≡ n = count-same n V everything (λ v l. is_node-from g v l) ∙ count-everything n in
     let firm : IsJoinedIn g V = connected-joined g V node (connected_inside g everything V graph (λ v l h. is_node-from g v l) (λ v l h. refl) connected) in
     record {
       graph = graph;
-      cutting = rw (todo_is, found_is) (cutting-same g V V (has p.nodes.items) [] [] to from (cutting-start g n V (omega (arith, size_is, two)) firm));
-      cuts = rw (todo_is, found_is) (cuts_same g V V (has p.nodes.items) [] [] (mark_of w.cuts.items) to from (cuts_none g V (mark_of w.cuts.items) bare));
+      cutting = rw (todo_is, found_is) (cutting-same g V V (has p.items) [] [] to from (cutting-start g n V (omega (arith, size_is, two)) firm));
+      cuts = rw (todo_is, found_is) (cuts_same g V V (has p.items) [] [] (mark_of w.cuts.items) to from (cuts_none g V (mark_of w.cuts.items) bare));
       marks = size;
-      parts = rw todo_is (All-push (IsUncut g) [] p (λ k d l. absurd (omega (arith, l)))
-          (record { set = record { ascending = rw all (members_ascend n everything); below = All-from_has (λ v. v < n) p.nodes.items below }; root = rw root (has_all 0 (omega (arith, two))) }));
+      todo_nodes = rw todo_is (All-push (λ (v : Vec ℕ Global). IsSetBelow n v.items) [] p (λ k d l. absurd (omega (arith, l)))
+          (record { ascending = rw all (members_ascend n everything); below = All-from_has (λ v. v < n) p.items below }));
       found_nodes = rw found_is (λ k d l. absurd (omega (arith, l)));
-      few = rw (todo_is, found_is) (omega (arith, count-le n (has p.nodes.items)));
+      few = rw (todo_is, found_is) (omega (arith, count-le n (has p.items)));
     }
 
 -- ---- from step to step: `old` before it, and `new` after it
 
 -- a part is taken from the list
-pub taken : (g : Network) (old new : Work) (p : Part) → old.todo.items ≡ new.todo.items ++ p ∷ [] → new.found.items ≡ old.found.items → new.cuts.items ≡ old.cuts.items → Working g [] old
-    → Working g (has p.nodes.items ∷ []) new × IsUncut g p × (weight_of g (has p.nodes.items ∷ []) new ≡ weight_of g [] old)
+pub taken : (g : Network) (old new : Work) (p : Vec ℕ Global) → old.todo.items ≡ new.todo.items ++ p ∷ [] → new.found.items ≡ old.found.items → new.cuts.items ≡ old.cuts.items → Working g [] old
+    → Working g (has p.items ∷ []) new × IsSetBelow g.nodes p.items × (weight_of g (has p.items ∷ []) new ≡ weight_of g [] old)
 taken g old new p todo_is found_is cuts_is w =
     let n = g.nodes in
     let V : ℕ → Bool = is_node g in
-    let same : todo_sets old.todo.items ≡ has p.nodes.items ∷ todo_sets new.todo.items = ap todo_sets todo_is ∙ todo_push new.todo.items p in
-    let parts = All-pop (IsUncut g) (new.todo.items ++ p ∷ []) new.todo.items (Present p) refl (rw todo_is at w.parts) in
-    let weight_is : weight_of g (has p.nodes.items ∷ []) new ≡ weight_of g [] old = sym (ap (weight n) same) in (
+    let same : sets_in old.todo.items ≡ has p.items ∷ sets_in new.todo.items = ap sets_in todo_is ∙ sets_push new.todo.items p in
+    let parts = All-pop (λ (v : Vec ℕ Global). IsSetBelow n v.items) (new.todo.items ++ p ∷ []) new.todo.items (Present p) refl (rw todo_is at w.todo_nodes) in
+    let weight_is : weight_of g (has p.items ∷ []) new ≡ weight_of g [] old = sym (ap (weight n) same) in (
       record {
         graph = w.graph;
-        cutting = rw found_is (subst (λ xs. Cutting g n V xs (found_sets old.found.items)) same w.cutting);
-        cuts = rw (found_is, cuts_is) (subst (λ xs. AreCuts g V xs (found_sets old.found.items) (mark_of old.cuts.items)) same w.cuts);
+        cutting = rw found_is (subst (λ xs. Cutting g n V xs (sets_in old.found.items)) same w.cutting);
+        cuts = rw (found_is, cuts_is) (subst (λ xs. AreCuts g V xs (sets_in old.found.items) (mark_of old.cuts.items)) same w.cuts);
         marks = ap length cuts_is ∙ w.marks;
-        parts = parts.0;
+        todo_nodes = parts.0;
         found_nodes = rw found_is w.found_nodes;
         few = omega (arith, w.few, weight_is, ap length found_is);
       },
@@ -85,19 +84,19 @@ taken g old new p todo_is found_is cuts_is w =
     )
 
 -- the set at hand is put on the list
-pub put_last : (g : Network) (old new : Work) (p : Part) → new.todo.items ≡ old.todo.items ++ p ∷ [] → new.found.items ≡ old.found.items → new.cuts.items ≡ old.cuts.items → IsUncut g p → Working g (has p.nodes.items ∷ []) old
-    → Working g [] new × (weight_of g [] new ≡ weight_of g (has p.nodes.items ∷ []) old)
+pub put_last : (g : Network) (old new : Work) (p : Vec ℕ Global) → new.todo.items ≡ old.todo.items ++ p ∷ [] → new.found.items ≡ old.found.items → new.cuts.items ≡ old.cuts.items → IsSetBelow g.nodes p.items → Working g (has p.items ∷ []) old
+    → Working g [] new × (weight_of g [] new ≡ weight_of g (has p.items ∷ []) old)
 put_last g old new p todo_is found_is cuts_is part w =
     let n = g.nodes in
     let V : ℕ → Bool = is_node g in
-    let same : todo_sets new.todo.items ≡ has p.nodes.items ∷ todo_sets old.todo.items = ap todo_sets todo_is ∙ todo_push old.todo.items p in
-    let weight_is : weight_of g [] new ≡ weight_of g (has p.nodes.items ∷ []) old = ap (weight n) same in (
+    let same : sets_in new.todo.items ≡ has p.items ∷ sets_in old.todo.items = ap sets_in todo_is ∙ sets_push old.todo.items p in
+    let weight_is : weight_of g [] new ≡ weight_of g (has p.items ∷ []) old = ap (weight n) same in (
       record {
         graph = w.graph;
-        cutting = rw found_is (subst (λ xs. Cutting g n V xs (found_sets old.found.items)) (sym same) w.cutting);
-        cuts = rw (found_is, cuts_is) (subst (λ xs. AreCuts g V xs (found_sets old.found.items) (mark_of old.cuts.items)) (sym same) w.cuts);
+        cutting = rw found_is (subst (λ xs. Cutting g n V xs (sets_in old.found.items)) (sym same) w.cutting);
+        cuts = rw (found_is, cuts_is) (subst (λ xs. AreCuts g V xs (sets_in old.found.items) (mark_of old.cuts.items)) (sym same) w.cuts);
         marks = ap length cuts_is ∙ w.marks;
-        parts = rw todo_is (All-push (IsUncut g) old.todo.items p w.parts part);
+        todo_nodes = rw todo_is (All-push (λ (v : Vec ℕ Global). IsSetBelow n v.items) old.todo.items p w.todo_nodes part);
         found_nodes = rw found_is w.found_nodes;
         few = omega (arith, w.few, weight_is, ap length found_is);
       },
@@ -105,22 +104,22 @@ put_last g old new p todo_is found_is cuts_is part w =
     )
 
 -- the first of two sets at hand is put on the list
-pub put_first : (g : Network) (S : ℕ → Bool) (old new : Work) (p : Part) → new.todo.items ≡ old.todo.items ++ p ∷ [] → new.found.items ≡ old.found.items → new.cuts.items ≡ old.cuts.items → IsUncut g p
-    → Working g (has p.nodes.items ∷ (S ∷ [])) old → Working g (S ∷ []) new × (weight_of g (S ∷ []) new ≡ weight_of g (has p.nodes.items ∷ (S ∷ [])) old)
+pub put_first : (g : Network) (S : ℕ → Bool) (old new : Work) (p : Vec ℕ Global) → new.todo.items ≡ old.todo.items ++ p ∷ [] → new.found.items ≡ old.found.items → new.cuts.items ≡ old.cuts.items → IsSetBelow g.nodes p.items
+    → Working g (has p.items ∷ (S ∷ [])) old → Working g (S ∷ []) new × (weight_of g (S ∷ []) new ≡ weight_of g (has p.items ∷ (S ∷ [])) old)
 put_first g S old new p todo_is found_is cuts_is part w =
     let n = g.nodes in
     let V : ℕ → Bool = is_node g in
-    let A : ℕ → Bool = has p.nodes.items in
-    let same : todo_sets new.todo.items ≡ A ∷ todo_sets old.todo.items = ap todo_sets todo_is ∙ todo_push old.todo.items p in
-    let heavy : weight n (todo_sets new.todo.items) ≡ (2 * count n A - 3) + weight n (todo_sets old.todo.items) = ap (weight n) same in
+    let A : ℕ → Bool = has p.items in
+    let same : sets_in new.todo.items ≡ A ∷ sets_in old.todo.items = ap sets_in todo_is ∙ sets_push old.todo.items p in
+    let heavy : weight n (sets_in new.todo.items) ≡ (2 * count n A - 3) + weight n (sets_in old.todo.items) = ap (weight n) same in
     let weight_is : weight_of g (S ∷ []) new ≡ weight_of g (A ∷ (S ∷ [])) old = omega (arith, heavy) in (
       record {
         graph = w.graph;
-        cutting = rw found_is (subst (λ xs. Cutting g n V (S ∷ xs) (found_sets old.found.items)) (sym same) (cutting-swap g V A S (todo_sets old.todo.items) (found_sets old.found.items) w.cutting));
-        cuts = rw (found_is, cuts_is) (subst (λ xs. AreCuts g V (S ∷ xs) (found_sets old.found.items) (mark_of old.cuts.items)) (sym same)
-            (cuts_swap g V A S (todo_sets old.todo.items) (found_sets old.found.items) (mark_of old.cuts.items) w.cuts));
+        cutting = rw found_is (subst (λ xs. Cutting g n V (S ∷ xs) (sets_in old.found.items)) (sym same) (cutting-swap g V A S (sets_in old.todo.items) (sets_in old.found.items) w.cutting));
+        cuts = rw (found_is, cuts_is) (subst (λ xs. AreCuts g V (S ∷ xs) (sets_in old.found.items) (mark_of old.cuts.items)) (sym same)
+            (cuts_swap g V A S (sets_in old.todo.items) (sets_in old.found.items) (mark_of old.cuts.items) w.cuts));
         marks = ap length cuts_is ∙ w.marks;
-        parts = rw todo_is (All-push (IsUncut g) old.todo.items p w.parts part);
+        todo_nodes = rw todo_is (All-push (λ (v : Vec ℕ Global). IsSetBelow n v.items) old.todo.items p w.todo_nodes part);
         found_nodes = rw found_is w.found_nodes;
         few = omega (arith, w.few, weight_is, ap length found_is);
       },
@@ -135,8 +134,8 @@ cut_in_two g S c K A B old new todo_is found_is cuts_is cut ka ak rb br w =
     let n = g.nodes in
     let V : ℕ → Bool = is_node g in
     let R : ℕ → Bool = rest S c K in
-    let todo = todo_sets old.todo.items in
-    let out = found_sets old.found.items in
+    let todo = sets_in old.todo.items in
+    let out = sets_in old.found.items in
     let marks = mark_of new.cuts.items in
     let s = w.cutting.rough.0 in
     let low : (v : ℕ) → IsTrue (V v) → v < n = λ v m. is_node_below g v m in
@@ -160,7 +159,7 @@ cut_in_two g S c K A B old new todo_is found_is cuts_is cut ka ak rb br w =
         cutting = rw (todo_is, found_is) both;
         cuts = rw (todo_is, found_is) all_cuts;
         marks = ap length cuts_is ∙ (length-set old.cuts.items c true ∙ w.marks);
-        parts = rw todo_is w.parts;
+        todo_nodes = rw todo_is w.todo_nodes;
         found_nodes = rw found_is w.found_nodes;
         few = omega (arith, w.few, smaller, ap length found_is);
       },
@@ -174,9 +173,9 @@ found_one g S old new v todo_is found_is cuts_is is sv vs firm w =
     let n = g.nodes in
     let V : ℕ → Bool = is_node g in
     let B : ℕ → Bool = has v.items in
-    let todo = todo_sets old.todo.items in
-    let out = found_sets old.found.items in
-    let same : found_sets new.found.items ≡ B ∷ out = ap found_sets found_is ∙ found_push old.found.items v in
+    let todo = sets_in old.todo.items in
+    let out = sets_in old.found.items in
+    let same : sets_in new.found.items ≡ B ∷ out = ap sets_in found_is ∙ sets_push old.found.items v in
     let cutting = cutting-same g V S B todo out sv vs w.cutting in
     let s = w.cutting.rough.0 in
     let ready : IsJoinedWithoutOne g B = λ c. joined-same g (without S c) (without B c) (λ x m. let p = without-parts S c x m in without-from B c x (sv x p.0) p.1) (λ x m. let p = without-parts B c x m in without-from S c x (vs x p.0) p.1) (firm c) in
@@ -186,7 +185,7 @@ found_one g S old new v todo_is found_is cuts_is is sv vs firm w =
         cutting = rw todo_is (subst (λ xs. Cutting g n V todo xs) (sym same) (cutting-ready g n V B todo out cutting ready));
         cuts = rw (todo_is, cuts_is) (subst (λ xs. AreCuts g V todo xs (mark_of old.cuts.items)) (sym same) (cuts_ready g V B todo out (mark_of old.cuts.items) (cuts_same g V S B todo out (mark_of old.cuts.items) sv vs w.cuts)));
         marks = ap length cuts_is ∙ w.marks;
-        parts = rw todo_is w.parts;
+        todo_nodes = rw todo_is w.todo_nodes;
         found_nodes = rw found_is (All-push (λ (u : Vec ℕ Global). IsSetBelow n u.items) old.found.items v w.found_nodes is);
         few = omega (arith, w.few, fewer, ap length found_is, length_push old.found.items v);
       },
@@ -196,7 +195,7 @@ found_one g S old new v todo_is found_is cuts_is is sv vs firm w =
 -- ---- the end
 
 -- an empty list
-no_parts : (xs : List Part) → length xs ≤ 0 → xs ≡ []
+no_parts : (xs : List (Vec ℕ Global)) → length xs ≤ 0 → xs ≡ []
 no_parts [] l = refl
 no_parts (x ∷ xs) l = absurd (omega (arith, l))
 
@@ -206,8 +205,8 @@ all_blocks g w none is =
     let n = g.nodes in
     let found = w.found.items in
     let empty : w.todo.items ≡ [] = no_parts w.todo.items none in
-    let cutting : Cutting g n (is_node g) [] (found_sets found) = subst (λ xs. Cutting g n (is_node g) (todo_sets xs) (found_sets found)) empty is.cutting in
-    let ends = cutting-end g n (is_node g) (found_sets found) cutting in
+    let cutting : Cutting g n (is_node g) [] (sets_in found) = subst (λ xs. Cutting g n (is_node g) (sets_in xs) (sets_in found)) empty is.cutting in
+    let ends = cutting-end g n (is_node g) (sets_in found) cutting in
     let block : (v : Vec ℕ Global) → Contains found v → Block g n (is_node g) (has v.items) = λ v h. each_at (λ (u : Vec ℕ Global). has u.items) (Block g n (is_node g)) (reverse found) v ends.0 (contains_reverse found v h) in
     record {
       nodes = All-map (IsSetBelow n) (λ (v : Vec ℕ Global). v.items) found is.found_nodes;
@@ -229,7 +228,7 @@ pub all_cuts : (g : Network) (w : Work) → length w.todo.items ≤ 0 → Workin
 all_cuts g w none is v =
     let n = g.nodes in
     let V : ℕ → Bool = is_node g in
-    let out = found_sets w.found.items in
+    let out = sets_in w.found.items in
     let empty : w.todo.items ≡ [] = no_parts w.todo.items none in
     let ready : Each (Ready g n V) out = is.cutting.ready in
     let to : (u : ℕ) → u < n → IsTrue (without V v u) → IsTrue (without everything v u) = λ u l h. without-from everything v u refl (without-parts V v u h).1 in
@@ -242,7 +241,7 @@ all_cuts g w none is v =
       (λ cut. elim (cases_Bool (mark_of w.cuts.items v)) [
         | inl t ↦ t
         | inr f ↦
-            let firm : IsJoinedIn g (without V v) = is.cuts.complete v f (subst (λ xs. Each (λ S. IsJoinedIn g (without S v)) (todo_sets xs)) (sym empty) tt) (each-map (Ready g n V) (λ S. IsJoinedIn g (without S v)) (λ S r. r.like.firm v) out ready) in
+            let firm : IsJoinedIn g (without V v) = is.cuts.complete v f (subst (λ xs. Each (λ S. IsJoinedIn g (without S v)) (sets_in xs)) (sym empty) tt) (each-map (Ready g n V) (λ S. IsJoinedIn g (without S v)) (λ S r. r.like.firm v) out ready) in
             absurd (cut.parts (connected_inside g (without V v) (without everything v) is.graph to from (joined-connected g (without V v) is.graph firm)))
       ]),
     )

@@ -13,9 +13,8 @@ use Rattle.tomo_base.proofs.Parting.{without-from, without-parts, joined-same, j
 use Rattle.tomo_base.proofs.Reaching.{is_node, nodes_in, is_node-from, is_node_below, connected-joined, joined-connected}
 use Rattle.tomo_base.proofs.Walks.{connected_inside}
 use Rattle.tomo_base.proofs.Picks.{count-within}
-use Rattle.blocks.specs.declared.block_list.Part.{Part}
 use Rattle.blocks.specs.Cutting.{BlockLike, MeetOne, Each, Some, Rough, Cutting}
-use Rattle.blocks.specs.Working.{todo_sets, found_sets}
+use Rattle.blocks.specs.Working.{sets_in}
 use Rattle.blocks.proofs.SetLists.{each-map}
 use Rattle.blocks.proofs.CutSets.{Block, meet-one, meet-sym, owner-ext}
 
@@ -105,13 +104,9 @@ some_at f P (x ∷ xs) h = elim h [
   | inr r ↦ let s = some_at f P xs r in (s.0, Contains-append_right (x ∷ []) xs s.0 s.1, s.2)
 ]
 
--- a set that is still to be cut is put at the front
-pub todo_push : (todo : List Part) (p : Part) → todo_sets (todo ++ p ∷ []) ≡ has p.nodes.items ∷ todo_sets todo
-todo_push todo p = ap (λ (ps : List Part). map (λ (q : Part). has q.nodes.items) ps) (reverse-append todo (p ∷ []))
-
--- so is one that is ready
-pub found_push : (found : List (Vec ℕ Global)) (v : Vec ℕ Global) → found_sets (found ++ v ∷ []) ≡ has v.items ∷ found_sets found
-found_push found v = ap (λ (vs : List (Vec ℕ Global)). map (λ (w : Vec ℕ Global). has w.items) vs) (reverse-append found (v ∷ []))
+-- the set that is put last on a list of sets is the first
+pub sets_push : (lists : List (Vec ℕ Global)) (v : Vec ℕ Global) → sets_in (lists ++ v ∷ []) ≡ has v.items ∷ sets_in lists
+sets_push lists v = ap (λ (vs : List (Vec ℕ Global)). map (λ (w : Vec ℕ Global). has w.items) vs) (reverse-append lists (v ∷ []))
 
 -- ---- sets with the same nodes may stand for each other
 

@@ -1,16 +1,16 @@
 // The blocks and the cut vertices of a connected graph.
 ghost use Rattle.std.specs.Prelude.{ℕ, ◌≡◌, ◌≤◌, ◌<◌, ◌*◌, ◌↔◌, [], ◌∷◌, true, length, set, All, IsTrue, IfOk, OnOk};
 ghost use Rattle.tomo_base.specs.Limits.{graph_node_limit};
-ghost use Rattle.tomo_base.specs.Sets.{has, members, without};
+ghost use Rattle.tomo_base.specs.Sets.{has, members, without, Within};
 ghost use Rattle.tomo_base.specs.Search.{mark_of};
 ghost use Rattle.tomo_base.specs.Walks.{IsConnected, IsConnectedIn, everything};
 ghost use Rattle.gate_search.specs.Stops.{IsRoom};
 ghost use Rattle.tomo_base.specs.Blocks.{IsBlock, IsCutVertex};
 ghost use Rattle.tomo_base.specs.SetLists.{IsSetBelow, AreSetsWith, AreAllSets, lists_of};
-ghost use Rattle.blocks.specs.Working.{IsUncut, IsPutOff, Working, weight_of};
+ghost use Rattle.blocks.specs.Working.{IsPutOff, Working, weight_of};
 
 use crate::growing::{Growth, begin, hold_way, step};
-use crate::marks::{marked, unmark};
+use crate::marks::{marked_nodes, unmark};
 use crate::node_lists::ordered_sets;
 use crate::sides::sides_at;
 use gate_search::{GateSearch, take_free};
@@ -49,17 +49,10 @@ impl BlockList {
     }
 }
 
-// A connected set of nodes that is still to be cut, and one of its nodes.
-#[derive(Drop)]
-pub struct Part {
-    pub nodes: Vec<u32>,
-    pub root: u32,
-}
-
-// Sets that are still to be cut, sets that no node cuts, and a mark for each node: whether it has cut a set.
+// Parts, which are connected sets that are still to be cut; sets that no node cuts; and a mark for each node: whether it has cut a set.
 #[derive(Drop)]
 pub struct Work {
-    pub todo: Vec<Part>,
+    pub todo: Vec<Vec<u32>>,
     pub found: Vec<Vec<u32>>,
     pub cuts: Vec<bool>,
 }
@@ -75,10 +68,28 @@ fn all_nodes(alloc: Global, n: u32) -> Result<Vec<u32>, NoMemory>
     Ok(all)
 }
 
-// Puts what the node d cuts off, with d, among the parts.
-fn put_off(alloc: Global, g: &Graph, side: &[u32], d: u32, work: &mut Work) -> Result<(), NoMemory>
+// The node in the middle of a part: a long part whose nodes are numbered along it is cut near its middle.
+fn middle(part: &[u32]) -> u32
+    requires { 1 ≤ length part.now }
+    ensures { IsTrue (has part.now result) }
+{
+    part[part.len() / 2]
+}
+
+// Puts what the node d of a part cuts off, with d, among the parts.
+fn put_off(
+    alloc: Global,
+    g: &Graph,
+    part: &[u32],
+    side: &[u32],
+    d: u32,
+    work: &mut Work,
+) -> Result<(), NoMemory>
+    requires part { IsSetBelow g.now.nodes part.now }
     requires side { All (λ v. v < g.now.nodes) side.now }
+    requires inside { Within (has side.now) (has part.now) }
     requires node { d < g.now.nodes }
+    requires cut { IsTrue (has part.now d) }
     requires marks { length work.old.cuts.items ≡ g.now.nodes }
     ensures part { OnOk result (IsPutOff g.now side.now d work.old.todo.items work.new.todo.items) }
     ensures found { OnOk result (work.new.found ≡ work.old.found) }
@@ -86,8 +97,7 @@ fn put_off(alloc: Global, g: &Graph, side: &[u32], d: u32, work: &mut Work) -> R
 {
     let mut inside = marks_of(alloc, g.nodes(), side)?;
     inside[d as usize] = true;
-    let nodes = marked(alloc, &inside)?;
-    work.todo.push(Part { nodes, root: d })?;
+    work.todo.push(marked_nodes(alloc, part, &inside)?)?;
     work.cuts[d as usize] = true;
     Ok(())
 }
@@ -97,38 +107,41 @@ fn put_off(alloc: Global, g: &Graph, side: &[u32], d: u32, work: &mut Work) -> R
 fn grow_block(
     alloc: Global,
     g: &Graph,
-    part: &Part,
+    part: &[u32],
+    root: u32,
     search: &mut GateSearch,
     work: &mut Work,
 ) -> Result<(), NoMemory>
-    requires working { Working g.now (has part.now.nodes.items ∷ []) work.old }
-    requires part { IsUncut g.now part.now }
-    requires whole { IsConnectedIn g.now (without (has part.now.nodes.items) part.now.root) }
+    requires working { Working g.now (has part.now ∷ []) work.old }
+    requires part { IsSetBelow g.now.nodes part.now }
+    requires root { IsTrue (has part.now root) }
+    requires whole { IsConnectedIn g.now (without (has part.now) root) }
     requires room { IsRoom g.now.nodes search.old.found }
     ensures working { OnOk result (Working g.now [] work.new) }
-    ensures lighter { OnOk result (weight_of g.now [] work.new < weight_of g.now (has part.now.nodes.items ∷ []) work.old) }
+    ensures lighter { OnOk result (weight_of g.now [] work.new < weight_of g.now (has part.now ∷ []) work.old) }
     ensures room { OnOk result (IsRoom g.now.nodes search.new.found) }
 {
-    let mut nodes = marks_of(alloc, g.nodes(), &part.nodes)?;
-    let mut free = begin(alloc, g, &nodes, part.root)?;
+    let mut nodes = marks_of(alloc, g.nodes(), part)?;
+    let mut free = begin(alloc, g, &nodes, root)?;
     let mut starts = Vec::new(alloc);
-    let mut x = 0;
-    while x < g.nodes() {
+    let mut i = 0;
+    while i < part.len() {
+        let x = part[i];
         if free[x as usize] {
             let start = take_free(&free, &mut starts, x);
             match step(g, &nodes, &free, start, search)? {
                 Growth::Way(y) => hold_way(g, search, y, &mut free, &mut starts)?,
                 Growth::Cut(d) => {
-                    put_off(alloc, g, &search.found.order, d, work)?;
+                    put_off(alloc, g, part, &search.found.order, d, work)?;
                     unmark(&mut nodes, &search.found.order);
                     unmark(&mut free, &search.found.order);
                 }
             }
         } else {
-            x += 1;
+            i += 1;
         }
     }
-    work.found.push(marked(alloc, &nodes)?)?;
+    work.found.push(marked_nodes(alloc, part, &nodes)?)?;
     Ok(())
 }
 
@@ -148,24 +161,15 @@ fn cut_up(alloc: Global, g: &Graph) -> Result<Work, NoMemory>
         found: Vec::new(alloc),
         cuts: vec![in alloc; false; n as usize]?,
     };
-    work.todo.push(Part {
-        nodes: all_nodes(alloc, n)?,
-        root: 0,
-    })?;
+    work.todo.push(all_nodes(alloc, n)?)?;
     while let Some(part) = work.todo.pop() {
-        match sides_at(alloc, g, &part.nodes, part.root)? {
-            None => grow_block(alloc, g, &part, &mut search, &mut work)?,
+        let root = middle(&part);
+        match sides_at(alloc, g, &part, root)? {
+            None => grow_block(alloc, g, &part, root, &mut search, &mut work)?,
             Some(sides) => {
-                let root = part.root;
                 work.cuts[root as usize] = true;
-                work.todo.push(Part {
-                    nodes: sides.near,
-                    root,
-                })?;
-                work.todo.push(Part {
-                    nodes: sides.far,
-                    root,
-                })?;
+                work.todo.push(sides.near)?;
+                work.todo.push(sides.far)?;
             }
         }
     }
@@ -189,10 +193,11 @@ fn set_marked(alloc: Global, marks: &[bool]) -> Result<NodeSet, NoMemory>
 
 /// The blocks and the cut vertices of a connected graph: exactly the largest sets of two nodes or more that are connected and stay so
 /// without any one node, and exactly the nodes without which the graph is not connected, ascending. After Hopcroft and Tarjan (1973), in
-/// another way: not one search numbers all nodes, but from a root of a set nodes are gathered that no single other node parts from it, each
-/// with a way between two gathered nodes that a search finds; where a search ends at a single gathered node, that node cuts off what the
-/// search has reached, which is worked on later by itself. For each block one search of its set, and searches that stop at the second
-/// gathered node: on most networks these look at each link a few times in all, and on a chain of n nodes at n²/2.
+/// another way: not one search numbers all nodes, but from the node in the middle of a set nodes are gathered that no single other node
+/// parts from it, each with a way between two gathered nodes that a search finds; where a search ends at a single gathered node, that node
+/// cuts off what the search has reached, which is worked on later by itself. For each block one search of its set, and searches that stop
+/// at the second gathered node: on most networks these look at each link a few times in all. A chain whose nodes are numbered along it is
+/// cut in half each time; a set from which each cut takes few nodes is searched anew for each.
 pub fn blocks(alloc: Global, g: &Graph) -> Result<BlockList, NoMemory>
     requires connected { IsConnected g.now }
     requires two { 2 ≤ g.now.nodes }

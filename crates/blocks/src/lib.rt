@@ -8,4 +8,5 @@ mod node_lists;
 mod sides;
 
 pub use block_list::{BlockList, blocks};
+pub use marks::marked_nodes;
 pub use node_lists::ordered_sets;

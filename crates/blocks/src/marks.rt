@@ -1,24 +1,24 @@
 // Marks on nodes.
-ghost use Rattle.std.specs.Prelude.{ℕ, ◌≡◌, ◌≤◌, ◌<◌, length, All, IfOk};
-ghost use Rattle.tomo_base.specs.Limits.{graph_node_limit};
-ghost use Rattle.tomo_base.specs.Sets.{has, members, minus};
+ghost use Rattle.std.specs.Prelude.{ℕ, ◌≡◌, ◌<◌, length, All, IfOk};
+ghost use Rattle.std.specs.List.{filter};
+ghost use Rattle.tomo_base.specs.Sets.{has, minus};
 ghost use Rattle.tomo_base.specs.Search.{mark_of};
 
 use std::alloc::Global;
 use tomo_base::NoMemory;
 
-// The nodes with a mark, ascending.
-pub fn marked(alloc: Global, marks: &[bool]) -> Result<Vec<u32>, NoMemory>
-    requires { length marks.now ≤ graph_node_limit }
-    ensures { IfOk result (λ nodes. nodes.items ≡ members (length marks.now) (mark_of marks.now)) }
+/// The nodes of the list that have a mark, in its order.
+pub fn marked_nodes(alloc: Global, nodes: &[u32], marks: &[bool]) -> Result<Vec<u32>, NoMemory>
+    requires { All (λ v. v < length marks.now) nodes.now }
+    ensures { IfOk result (λ kept. kept.items ≡ filter (mark_of marks.now) nodes.now) }
 {
-    let mut nodes = Vec::new(alloc);
-    for v in 0..marks.len() {
-        if marks[v] {
-            nodes.push(v as u32)?;
+    let mut kept = Vec::new(alloc);
+    for &v in nodes {
+        if marks[v as usize] {
+            kept.push(v)?;
         }
     }
-    Ok(nodes)
+    Ok(kept)
 }
 
 // Takes their marks from the nodes of the list.

@@ -1,10 +1,9 @@
-use Rattle.std.proofs.Common.{◌≡◌, ◌<◌, ◌≤◌, ◌∙◌, true, false, length, set, length-set, ap, sym, subst, inl, inr, arith, get_or-set_same}
-use Rattle.std.proofs.lemmas.Bool.{cases_Bool, cases_lt, both_ways}
+use Rattle.std.proofs.Common.{◌≡◌, ◌<◌, ◌≤◌, ◌∙◌, false, length, length-set, ap, inl, inr, arith}
+use Rattle.std.proofs.lemmas.Bool.{cases_lt}
 use Rattle.std.proofs.lemmas.List.{get_or_read}
 use Rattle.tomo_base.specs.Search.{mark_of, entry_at}
-use Rattle.tomo_base.proofs.Counts.{count-less}
 use Rattle.gate_search.proofs.Marks.{still_gone}
-use Rattle.gate_search.proofs.Trees.{is_tree, first_in, free_in, ranked_at}
+use Rattle.gate_search.proofs.Trees.{is_tree, ranked_at}
 use Rattle.blocks.proofs.Holding.{way_begins, way_on, way_holds, way_fewer, only_start}
 use Rattle.blocks.proofs.growing.hold_way.Goals as goal
 

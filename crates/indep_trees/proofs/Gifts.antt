@@ -1,15 +1,16 @@
 -- Values that the nodes between the ends of an ear get, one after the other.
-use Rattle.std.proofs.Common.{◌≡◌, ℕ, zero, suc, ◌+◌, ◌-◌, ◌<◌, ◌≤◌, List, length, set, true, false, All, sym, subst, ap, ◌∙◌, inl, inr, arith, get_or-set_same, get_or-set_other, length-set}
+use Rattle.std.proofs.Common.{◌≡◌, ℕ, zero, suc, ◌+◌, ◌-◌, ◌<◌, ◌≤◌, List, length, set, true, false, All, refl, sym, subst, ap, ◌∙◌, inl, inr, arith, get_or-set_same, get_or-set_other, length-set}
 use Rattle.std.proofs.lemmas.Bool.{cases_eq, both_ways}
 use Rattle.tomo_base.specs.Search.{entry_at}
 use Rattle.tomo_base.specs.Walks.{NoneTwice}
 use Rattle.ear_order.specs.Turns.{between}
+use Rattle.indep_trees.specs.Placing.{AreGiven}
 use Rattle.ear_order.proofs.Places.{run_at, run_gives}
 use Rattle.ear_order.proofs.Lists.{different_at}
 
--- the nodes between the ends, up to a place, have their values, and the other nodes keep theirs
-abbrev pub AreGiven : List ℕ → (ℕ → ℕ) → List ℕ → ℕ → List ℕ → Type 0
-AreGiven ear gift old i now = (length now ≡ length old) × ((k : ℕ) → k < i → entry_at now (entry_at ear (suc k)) ≡ gift k) × ((v : ℕ) → between ear v ≡ false → entry_at now v ≡ entry_at old v)
+-- none so far
+pub given_none : (ear : List ℕ) (gift : ℕ → ℕ) (old : List ℕ) → AreGiven ear gift old 0 old
+given_none ear gift old = (refl, λ k l. absurd (omega (arith, l)), λ v out. refl)
 
 module _ (ear : List ℕ) (gift : ℕ → ℕ) (old now : List ℕ) (i : ℕ) (l : i < length ear - 2) (small : All (λ v. v < length old) ear) (given : AreGiven ear gift old i now) where
   -- the node at the next place

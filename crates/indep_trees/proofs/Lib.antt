@@ -9,3 +9,4 @@ pub mod Spots
 pub mod Gifts
 pub mod Placements
 pub mod Growing
+pub mod Widening

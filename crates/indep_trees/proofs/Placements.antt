@@ -13,7 +13,7 @@ use Rattle.ear_order.proofs.Lists.{ear_at}
 use Rattle.ear_order.proofs.Places.{EarAt}
 use Rattle.ear_order.proofs.Spots.{either_ear, ear_all}
 use Rattle.ear_order.proofs.Ordering.{after, order_marks, ends_differ}
-use Rattle.indep_trees.specs.Placing.{In, Numbered, StandsBefore, IsWidened}
+use Rattle.indep_trees.specs.Placing.{In, Numbered, StandsBefore, IsWidened, AreGiven}
 use Rattle.indep_trees.proofs.Sublists.{in_gives}
 use Rattle.indep_trees.proofs.LaterEars.{numbered_none, numbered_same}
 use Rattle.indep_trees.proofs.Ears.{ear_in, after_more, one_more}
@@ -55,11 +55,10 @@ placed_none o is r t r_is t_is low high ear none = numbered_none o.graph r t o.u
 pub placed_more : (o : Ears) → IsOrder o → (r t : ℕ) → r ≡ o.r → t ≡ o.t → (i : ℕ) → i < length o.list → (ear e order wide low high ears low' high' ears' : List ℕ) → ear ≡ get_or o.list i []
     → Numbered o.graph r t o.u (after (ends_of r t) (take i o.list)) order (entry_at low) (entry_at high) (entry_at ears) (i + 1)
     → IsEither e ear → StandsBefore order (entry_at e 0) (entry_at e (length e - 1)) → IsWidened order e wide
-    → ((j : ℕ) → suc j < length e - 1 → entry_at low' (entry_at e (suc j)) ≡ entry_at e (j + 0)) → ((v : ℕ) → between e v ≡ false → entry_at low' v ≡ entry_at low v)
-    → ((j : ℕ) → suc j < length e - 1 → entry_at high' (entry_at e (suc j)) ≡ entry_at e (j + 2)) → ((v : ℕ) → between e v ≡ false → entry_at high' v ≡ entry_at high v)
+    → AreGiven e (λ j. entry_at e j) low (length e - 2) low' → AreGiven e (λ j. entry_at e (j + 2)) high (length e - 2) high'
     → ((v : ℕ) → between e v ≡ true → entry_at ears' v ≡ i + 1) → ((v : ℕ) → between e v ≡ false → entry_at ears' v ≡ entry_at ears v)
     → Numbered o.graph r t o.u (after (ends_of r t) (take (i + 1) o.list)) wide (entry_at low') (entry_at high') (entry_at ears') (i + 1 + 1)
-placed_more o is r t r_is t_is i l ear e order wide low high ears low' high' ears' ear_is numbered either before widened low_set low_kept high_set high_kept ear_set ear_kept =
+placed_more o is r t r_is t_is i l ear e order wide low high ears low' high' ears' ear_is numbered either before widened low_given high_given ear_set ear_kept =
     let old = ear_of o is r t r_is t_is i l ear ear_is in
     let D : ℕ → Bool = after (ends_of r t) (take i o.list) in
     let one : suc i ≡ i + 1 = omega arith in
@@ -67,7 +66,8 @@ placed_more o is r t r_is t_is i l ear e order wide low high ears low' high' ear
     let same : with_ear D ear ≡ after (ends_of r t) (take (i + 1) o.list) = ap (with_ear D) ear_is ∙ (sym (after_more (ends_of r t) o.list i l) ∙ ap (λ j. after (ends_of r t) (take j o.list)) one) in
     subst (λ k. Numbered o.graph r t o.u (after (ends_of r t) (take (i + 1) o.list)) wide (entry_at low') (entry_at high') (entry_at ears') k) two
     (subst (λ z. Numbered o.graph r t o.u z wide (entry_at low') (entry_at high') (entry_at ears') (suc (i + 1))) same
-    (one_more o.graph r t o.u D ear e order wide (entry_at low) (entry_at high) (entry_at ears) (entry_at low') (entry_at high') (entry_at ears') (i + 1) numbered old.0 old.1 either before widened low_set high_set ear_set low_kept high_kept ear_kept))
+    (one_more o.graph r t o.u D ear e order wide (entry_at low) (entry_at high) (entry_at ears) (entry_at low') (entry_at high') (entry_at ears') (i + 1) numbered old.0 old.1 either before widened
+    (λ j l. low_given.1 j (omega (arith, l)) ∙ (let same : j ≡ j + 0 = omega arith in ap (entry_at e) same)) (λ j l. high_given.1 j (omega (arith, l))) ear_set low_given.2 high_given.2 ear_kept))
 
 -- all ears
 pub placed_all : (o : Ears) → IsOrder o → (r t : ℕ) → r ≡ o.r → t ≡ o.t → (i : ℕ) → i ≤ length o.list → length o.list ≤ i → (order : List ℕ) (low high ears : ℕ → ℕ)

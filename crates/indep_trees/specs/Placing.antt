@@ -1,7 +1,12 @@
 -- Nodes put into one order ear by ear: between the two neighbours on their ear, and below a neighbour on a later ear.
-use Rattle.std.specs.Prelude.{ℕ, ◌≡◌, ◌⊎◌, ◌+◌, ◌-◌, ◌<◌, ◌≤◌, Bool, true, false, List, [], ◌∷◌, ◌++◌, take, drop, length}
+use Rattle.std.specs.Prelude.{ℕ, suc, ◌≡◌, ◌⊎◌, ◌+◌, ◌-◌, ◌<◌, ◌≤◌, Bool, true, false, List, [], ◌∷◌, ◌++◌, take, drop, length}
 use Rattle.tomo_base.specs.Network.{Network, linked}
 use Rattle.tomo_base.specs.Search.{entry_at}
+use Rattle.ear_order.specs.Turns.{between}
+
+-- the first i nodes behind the first of the ear have what is given to each, and nodes that are not between its ends keep what they had
+abbrev pub AreGiven : List ℕ → (ℕ → ℕ) → List ℕ → ℕ → List ℕ → Type 0
+AreGiven ear gift old i now = (length now ≡ length old) × ((k : ℕ) → k < i → entry_at now (entry_at ear (suc k)) ≡ gift k) × ((v : ℕ) → between ear v ≡ false → entry_at now v ≡ entry_at old v)
 
 -- s stands in l in this order
 abbrev pub Sub : List ℕ → List ℕ → Type 0

@@ -1,29 +1,15 @@
 // The nodes of ears, put into one order.
-ghost use Rattle.std.specs.Prelude.{◌≡◌, ◌≢◌, ◌⊎◌, ◌<◌, ◌≤◌, ◌+◌, ◌-◌, ℕ, length, suc, All, IfOk, IsTrue, true, false};
+ghost use Rattle.std.specs.Prelude.{◌≡◌, ◌≢◌, ◌⊎◌, ◌<◌, ◌≤◌, ◌+◌, ◌-◌, ℕ, length, All, IfOk, OnOk, IsTrue, true, false};
 ghost use Rattle.tomo_base.specs.Sets.{has};
 ghost use Rattle.tomo_base.specs.Search.{entry_at};
 ghost use Rattle.tomo_base.specs.Walks.{NoneTwice};
 ghost use Rattle.ear_order.specs.Ears.{IsOrder, in_ears};
 ghost use Rattle.ear_order.specs.Turns.{IsEither, between};
-ghost use Rattle.indep_trees.specs.Placing.{StandsBefore, IsWidened, Numbered};
+ghost use Rattle.indep_trees.specs.Placing.{StandsBefore, IsWidened, AreGiven, Numbered};
 
 use ear_order::EarOrder;
 use std::alloc::Global;
 use tomo_base::NoMemory;
-
-/// The first place of a node in a list.
-fn place_of(nodes: &[u32], v: u32) -> usize
-    requires { IsTrue (has nodes.now v) }
-    ensures below { result < length nodes.now }
-    ensures place { entry_at nodes.now result ≡ v }
-{
-    for (i, &w) in nodes.iter().enumerate() {
-        if w == v {
-            return i;
-        }
-    }
-    unreachable!()
-}
 
 /// The first place in a list at which one of two nodes stands.
 fn first_place(nodes: &[u32], v: u32, w: u32) -> usize
@@ -40,48 +26,58 @@ fn first_place(nodes: &[u32], v: u32, w: u32) -> usize
     unreachable!()
 }
 
+/// An ear whose first node stands before its last in the order, and the place of its first node there.
+#[derive(Drop)]
+pub struct FacedEar {
+    pub ear: Vec<u32>,
+    pub place: usize,
+}
+
 /// The ear, turned round where its last node stands before its first in the order.
-fn faced(alloc: Global, order: &[u32], ear: &[u32]) -> Result<Vec<u32>, NoMemory>
+fn face(alloc: Global, order: &[u32], ear: &[u32]) -> Result<FacedEar, NoMemory>
     requires some { 1 ≤ length ear.now }
     requires first { IsTrue (has order.now (entry_at ear.now 0)) }
     requires last { IsTrue (has order.now (entry_at ear.now (length ear.now - 1))) }
     requires differ { entry_at ear.now 0 ≢ entry_at ear.now (length ear.now - 1) }
-    ensures ear { IfOk result (λ e. IsEither e.items ear.now) }
-    ensures before { IfOk result (λ e. StandsBefore order.now (entry_at e.items 0) (entry_at e.items (length e.items - 1))) }
+    ensures ear { IfOk result (λ f. IsEither f.ear.items ear.now) }
+    ensures before { IfOk result (λ f. StandsBefore order.now (entry_at f.ear.items 0) (entry_at f.ear.items (length f.ear.items - 1))) }
+    ensures place { IfOk result (λ f. (f.place < length order.now) × (entry_at order.now f.place ≡ entry_at f.ear.items 0)) }
 {
-    let mut faced = ear.to_vec(alloc)?;
+    let mut turned = ear.to_vec(alloc)?;
     let place = first_place(order, ear[0], ear[ear.len() - 1]);
     if order[place] != ear[0] {
-        faced.reverse();
+        turned.reverse();
     }
-    Ok(faced)
+    Ok(FacedEar { ear: turned, place })
 }
 
-/// The order with the nodes between the ends of the ear put in after its first node.
-fn widened(alloc: Global, order: &[u32], ear: &[u32]) -> Result<Vec<u32>, NoMemory>
-    requires long { 2 ≤ length ear.now }
-    requires first { IsTrue (has order.now (entry_at ear.now 0)) }
-    ensures { IfOk result (λ wide. IsWidened order.now ear.now wide.items) }
+/// Puts the nodes between the ends of the ear into the order, behind the place of its first node. The error is want of memory.
+fn widen(order: &mut Vec<u32>, faced: &FacedEar) -> Result<(), NoMemory>
+    requires long { 2 ≤ length faced.now.ear.items }
+    requires place { faced.now.place < length order.old.items }
+    requires first { entry_at order.old.items faced.now.place ≡ entry_at faced.now.ear.items 0 }
+    ensures { OnOk result (IsWidened order.old.items faced.now.ear.items order.new.items) }
 {
-    let after = place_of(order, ear[0]) + 1;
-    let mut wide = order[..after].to_vec(alloc)?;
-    wide.extend_from_slice(&ear[1..ear.len() - 1])?;
-    wide.extend_from_slice(&order[after..])?;
-    Ok(wide)
+    for i in 0..faced.ear.len() - 2 {
+        order.insert(faced.place + 1 + i, faced.ear[i + 1])?;
+    }
+    Ok(())
 }
 
-/// Gives each node between the ends of the ear the node so many places after the one before it.
-fn put(values: &mut Vec<u32>, ear: &[u32], by: usize)
+/// Gives each node between the ends of the ear its two neighbours there: to the low ones the node before it, to the high ones the node
+/// after it.
+fn put(low: &mut Vec<u32>, high: &mut Vec<u32>, ear: &[u32])
     requires long { 2 ≤ length ear.now }
-    requires by { by ≤ 2 }
-    requires nodes { All (λ v. v < length values.old.items) ear.now }
+    requires low { All (λ v. v < length low.old.items) ear.now }
+    requires high { All (λ v. v < length high.old.items) ear.now }
     requires different { NoneTwice ear.now }
-    ensures size { length values.new.items ≡ length values.old.items }
-    ensures given { (i : ℕ) → suc i < length ear.now - 1 → entry_at values.new.items (entry_at ear.now (suc i)) ≡ entry_at ear.now (i + by) }
-    ensures kept { (v : ℕ) → between ear.now v ≡ false → entry_at values.new.items v ≡ entry_at values.old.items v }
+    ensures low { AreGiven ear.now (λ k. entry_at ear.now k) low.old.items (length ear.now - 2) low.new.items }
+    ensures high { AreGiven ear.now (λ k. entry_at ear.now (k + 2)) high.old.items (length ear.now - 2) high.new.items }
 {
     for i in 0..ear.len() - 2 {
-        values[ear[i + 1] as usize] = ear[i + by];
+        let v = ear[i + 1] as usize;
+        low[v] = ear[i];
+        high[v] = ear[i + 2];
     }
 }
 
@@ -125,11 +121,10 @@ pub fn placed(alloc: Global, n: u32, ears: &EarOrder, r: u32, t: u32) -> Result<
     order.push(r)?;
     order.push(t)?;
     for i in 0..ears.len() {
-        let ear = faced(alloc, &order, ears.ear(i))?;
-        order = widened(alloc, &order, &ear)?;
-        put(&mut low, &ear, 0);
-        put(&mut high, &ear, 2);
-        fill(&mut numbers, &ear, i + 1);
+        let faced = face(alloc, &order, ears.ear(i))?;
+        widen(&mut order, &faced)?;
+        put(&mut low, &mut high, &faced.ear);
+        fill(&mut numbers, &faced.ear, i + 1);
     }
     Ok(Placing {
         order,

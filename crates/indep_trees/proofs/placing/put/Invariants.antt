@@ -1,9 +1,8 @@
-use Rattle.std.proofs.Common.{◌≡◌, ℕ, suc, ◌+◌, ◌<◌, length, false}
+use Rattle.std.proofs.Common.{◌+◌}
 use Rattle.tomo_base.specs.Search.{entry_at}
-use Rattle.ear_order.specs.Turns.{between}
+use Rattle.indep_trees.specs.Placing.{AreGiven}
 use Rattle.indep_trees.proofs.placing.put.Given as goal
 
 -- the nodes so far have theirs
 abbrev pub invariant-loop-i : goal.invariant-loop-i
-invariant-loop-i l = (length l.values.items ≡ length l.fn.values.items) × ((k : ℕ) → k < l.i → entry_at l.values.items (entry_at l.ear (suc k)) ≡ entry_at l.ear (k + l.by))
-    × ((v : ℕ) → between l.ear v ≡ false → entry_at l.values.items v ≡ entry_at l.fn.values.items v)
+invariant-loop-i l = AreGiven l.ear (λ k. entry_at l.ear k) l.fn.low.items l.i l.low.items × AreGiven l.ear (λ k. entry_at l.ear (k + 2)) l.fn.high.items l.i l.high.items

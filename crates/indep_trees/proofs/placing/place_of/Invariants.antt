@@ -1,7 +1,0 @@
-use Rattle.std.proofs.Common.{◌≡◌, ℕ, ◌<◌}
-use Rattle.tomo_base.specs.Search.{entry_at}
-use Rattle.indep_trees.proofs.placing.place_of.Given as goal
-
--- the node has none of the places so far
-abbrev pub invariant-loop-i : goal.invariant-loop-i
-invariant-loop-i l = (k : ℕ) → k < l.i → entry_at l.nodes k ≡ l.v → ⊥

@@ -1,66 +1,24 @@
--- What a search that met one gate alone cuts off; and where all of a set are held, no node cuts it.
-use Rattle.std.proofs.Common.{◌≡◌, ◌≢◌, ℕ, Bool, true, false, not, ◌==◌, List, IsTrue, sym, ◌∙◌, inl, inr, arith, subst}
-use Rattle.std.proofs.lemmas.Bool.{cases_eq, cases_Bool, both_ways, or_cases, or_left, or_right, and_left, eqb-true, eq-eqb, false_from_ne_true}
+-- What is left of a set where a side of it is cut off; and where all of a set are held, no node cuts it.
+use Rattle.std.proofs.Common.{◌≡◌, ◌≢◌, ℕ, Bool, false, not, ◌==◌, List, IsTrue, sym, ◌∙◌, inl, inr, subst}
+use Rattle.std.proofs.lemmas.Bool.{cases_eq, both_ways, or_cases, or_left, or_right, and_left, eqb-true, eq-eqb, false_from_ne_true}
 use Rattle.tomo_base.specs.Network.{Network, linked, IsGraph}
 use Rattle.tomo_base.specs.Sets.{has, without, minus, Within}
 use Rattle.tomo_base.specs.Walks.{IsConnectedIn, everything}
-use Rattle.tomo_base.specs.Search.{mark_of}
 use Rattle.tomo_base.specs.Parting.{with_one, AreJoinedIn, IsJoinedIn, IsJoinedWithoutOne}
-use Rattle.tomo_base.proofs.Links.{linked_below, linked_comm}
-use Rattle.tomo_base.proofs.Ascending.{place_in}
+use Rattle.tomo_base.proofs.Links.{linked_below}
 use Rattle.tomo_base.proofs.Parting.{without-from, without-parts, minus-in, minus-out, joined-at, joined-each}
 use Rattle.tomo_base.proofs.Reaching.{is_node, is_node-from, is_node_below, connected-joined}
-use Rattle.gate_search.specs.Stops.{IsGateSearch, IsGateless}
-use Rattle.gate_search.specs.declared.search.GateSearch.{GateSearch}
-use Rattle.gate_search.proofs.Trees.{free_in, first_in, order_closed}
+use Rattle.gate_search.specs.Advancing.{IsGrown}
+use Rattle.gate_search.proofs.Cutting.{Cut}
 use Rattle.blocks.specs.Sides.{AreSides}
 use Rattle.blocks.specs.Cutting.{Rough}
-use Rattle.blocks.specs.Growing.{IsGrown, HasOneGate}
-use Rattle.blocks.proofs.CutSets.{Cut, rest}
+use Rattle.blocks.proofs.CutSets.{rest}
 use Rattle.blocks.proofs.CuttingAt.{kept_joined}
 
--- a search without gates has come to all that is joined to its start
-pub gateless_reaches : (g : Network) (w : ℕ → Bool) (free : List Bool) (s : GateSearch) (x y : ℕ) → IsGraph g → IsGateSearch g free s → IsGateless g w (mark_of free) s x → AreJoinedIn g w x y → mark_of free y ≡ true
-gateless_reaches g w free s x y graph is end joined =
-    free_in g free s.start s.head s.found graph is.search y
-    (joined (has s.found.order.items) (λ u v m link t. elim (cases_Bool (mark_of free v)) [
-      | inl f ↦ order_closed g free s.start s.head s.found graph is.search end.all u v m link f
-      | inr out ↦
-          let at = place_in s.found.order.items u m in
-          let node = (linked_below g.nodes g.links u v graph link).1 in
-          absurd (elim (end.passed at.0 (omega (arith, at.1, end.all)) v (subst (λ z. IsTrue (linked g z v)) (sym at.2) link) t out) [ inl e ↦ omega (arith, node, e) | inr e ↦ omega (arith, node, e) ])
-    ]) (subst (λ z. IsTrue (has s.found.order.items z)) end.start (first_in g free s.start s.head s.found graph is.search)))
-
--- the one node to which gates lead cuts off what the search has reached
-pub cut_off : (g : Network) (root : ℕ) (w : ℕ → Bool) (free : List Bool) (s : GateSearch) (d : ℕ) → IsGraph g → HasOneGate g w free s d → IsGrown g root w (mark_of free) → Cut g w d (has s.found.order.items)
-cut_off g root w free s d graph off h =
-    let K : ℕ → Bool = has s.found.order.items in
-    let is_free : Within K (mark_of free) = λ v m. free_in g free s.start s.head s.found graph off.search.search v m in
-    let start : IsTrue (K s.start) = first_in g free s.start s.head s.found graph off.search.search in
-    let differs : (v : ℕ) → IsTrue (K v) → v ≢ d = λ v m e. both_ways (mark_of free d) off.gate.not_free (subst (λ z. mark_of free z ≡ true) e (is_free v m)) in
-    let root_other : root ≢ d = λ e. both_ways (mark_of free s.start)
-    (h.near s.start (linked_comm g s.start root (subst (λ z. IsTrue (linked g s.start z)) (sym e) off.gate.linked)) (h.free_in s.start (is_free s.start start))) (is_free s.start start) in
-    record {
-      at = off.gate.in_set;
-      inner = λ v m. without-from w d v (h.free_in v (is_free v m)) (differs v m);
-      shut = λ u v m link t.
-          let p = without-parts w d v t in
-          elim (cases_Bool (mark_of free v)) [
-            | inl f ↦ order_closed g free s.start s.head s.found graph off.search.search off.all u v m link f
-            | inr out ↦
-                let at = place_in s.found.order.items u m in
-                absurd (p.1 (elim (off.passed at.0 (omega (arith, at.1, off.all)) v (subst (λ z. IsTrue (linked g z v)) (sym at.2) link) p.0 out) [ inl e ↦ e | inr e ↦ e ]))
-          ];
-      here = s.start;
-      here_in = start;
-      there = root;
-      there_in = without-from w d root h.root_in root_other;
-      there_off = false_from_ne_true (K root) (λ m. both_ways (mark_of free root) h.root_held (is_free root m));
-    }
-
 -- what is held stays held where free nodes are cut off
-pub grown_less : (g : Network) (root : ℕ) (w free w' free' K : ℕ → Bool) → Within K free → ((v : ℕ) → w' v ≡ minus w K v) → ((v : ℕ) → free' v ≡ minus free K v) → IsGrown g root w free → IsGrown g root w' free'
-grown_less g root w free w' free' K inside ws frees h = record {
+pub grown_less : (g : Network) (base : ℕ → Bool) (root : ℕ) (w free w' free' K : ℕ → Bool) → Within K free → ((v : ℕ) → w' v ≡ minus w K v) → ((v : ℕ) → free' v ≡ minus free K v) → IsGrown g base root w free → IsGrown g base root w' free'
+grown_less g base root w free w' free' K inside ws frees h = record {
+  in_base = λ v t. h.in_base v (minus-out w K v (sym (ws v) ∙ t)).0;
   root_in = ws root ∙ minus-in w K root h.root_in (false_from_ne_true (K root) (λ m. both_ways (free root) h.root_held (inside root m)));
   root_held = frees root ∙ and_left (free root) (not (K root)) h.root_held;
   free_in = λ v t. let p = minus-out free K v (sym (frees v) ∙ t) in ws v ∙ minus-in w K v (h.free_in v p.0) p.1;
@@ -88,7 +46,7 @@ rest_is w w' K d g cut ws = (
 )
 
 -- a set of which all are held, cut out of one that the root does not cut
-pub all_held : (g : Network) (root : ℕ) (w free T : ℕ → Bool) → IsGraph g → Rough g g.nodes (is_node g) w → IsGrown g root w free → ((v : ℕ) → IsTrue (w v) → free v ≡ false) → Within w T → Within T (is_node g)
+pub all_held : (g : Network) (root : ℕ) (w free T : ℕ → Bool) → IsGraph g → Rough g g.nodes (is_node g) w → IsGrown g everything root w free → ((v : ℕ) → IsTrue (w v) → free v ≡ false) → Within w T → Within T (is_node g)
     → IsConnectedIn g (without T root) → IsJoinedWithoutOne g w
 all_held g root w free T graph rough h held wt tv whole =
     let V : ℕ → Bool = is_node g in

@@ -5,9 +5,10 @@ use Rattle.tomo_base.specs.Network.{Network}
 use Rattle.tomo_base.specs.Sets.{count, without, minus, meet, Within}
 use Rattle.tomo_base.proofs.Links.{linked_comm}
 use Rattle.tomo_base.proofs.Counts.{find}
-use Rattle.tomo_base.specs.Parting.{with_one, IsClosedIn, IsJoinedIn}
+use Rattle.tomo_base.specs.Parting.{with_one, IsJoinedIn}
 use Rattle.tomo_base.proofs.Parting.{without-from, without-parts, minus-in, minus-out, closed-rest, joined-at}
 use Rattle.tomo_base.proofs.Picks.{count-split, count-within, count-without, count-removed, two-count}
+use Rattle.gate_search.proofs.Cutting.{Cut}
 use Rattle.blocks.specs.Cutting.{BlockLike, OneOwner, MeetOne}
 use Rattle.blocks.proofs.OneSide.{side-firm, one-side}
 
@@ -32,17 +33,6 @@ meet-one A B A' B' sa sb h u v au bu av bv = h u v (sa u au) (sb u bu) (sa v av)
 -- sharing is the same in either order
 pub meet-sym : (A B : ℕ → Bool) → MeetOne A B → MeetOne B A
 meet-sym A B h u v bu au bv av = h u v au bu av bv
-
--- a set cut at its node w: K is one side
-pub record Cut (N : Network) (S : ℕ → Bool) (w : ℕ) (K : ℕ → Bool) : Type 0 where
-  pub at : IsTrue (S w)
-  pub inner : Within K (without S w)
-  pub shut : IsClosedIn N (without S w) K
-  pub here : ℕ
-  pub here_in : IsTrue (K here)
-  pub there : ℕ
-  pub there_in : IsTrue (without S w there)
-  pub there_off : K there ≡ false
 
 -- the other side of a cut
 abbrev pub rest : (ℕ → Bool) → ℕ → (ℕ → Bool) → ℕ → Bool

@@ -9,7 +9,8 @@ use Rattle.tomo_base.proofs.Reaching.{cut-or-joined}
 use Rattle.tomo_base.proofs.Picks.{count-within, pick1}
 use Rattle.blocks.specs.Cutting.{Each, Some, Pairs, BlockLike, OneOwner, MeetOne, Rough, Ready, Cutting, weight}
 use Rattle.blocks.proofs.SetLists.{each-map, each-both, each-every, some-with, some-each, pairs-each, at-home}
-use Rattle.blocks.proofs.CutSets.{Block, meet-one, meet-sym, Cut, rest, cut-other, side-in, cut-firm, cut-two, cut-count, like-in-part, sides-meet, owner-part, owner-ext}
+use Rattle.gate_search.proofs.Cutting.{Cut}
+use Rattle.blocks.proofs.CutSets.{Block, meet-one, meet-sym, rest, cut-other, side-in, cut-firm, cut-two, cut-count, like-in-part, sides-meet, owner-part, owner-ext}
 
 -- at first all nodes are to be cut
 pub cutting-start : (N : Network) (n : ℕ) (V : ℕ → Bool) → 2 ≤ count n V → IsJoinedIn N V → Cutting N n V (V ∷ []) []

@@ -6,7 +6,8 @@ use Rattle.tomo_base.specs.Sets.{without, Within}
 use Rattle.tomo_base.specs.Parting.{with_one, without_two, AreJoinedIn, IsJoinedIn}
 use Rattle.tomo_base.proofs.Parting.{without-from, without-parts, without-twice, without-once, minus-in, minus-out, joined-more, joined-at, joined-same}
 use Rattle.blocks.specs.Cutting.{OneOwner, AreCuts}
-use Rattle.blocks.proofs.CutSets.{Cut, rest, side-in}
+use Rattle.gate_search.proofs.Cutting.{Cut}
+use Rattle.blocks.proofs.CutSets.{rest, side-in}
 use Rattle.blocks.proofs.Unparted.{block-parted}
 
 -- what is joined in a set without a node is joined in a smaller set without it, where each node outside that has one owner in it

@@ -4,20 +4,21 @@ use Rattle.std.specs.Global.{Global}
 use Rattle.std.proofs.lemmas.Bool.{and_right}
 use Rattle.tomo_base.specs.Network.{Network}
 use Rattle.tomo_base.specs.Sets.{has, count, minus, without, Within}
+use Rattle.tomo_base.specs.Walks.{everything}
 use Rattle.tomo_base.specs.Search.{mark_of}
 use Rattle.tomo_base.proofs.Counts.{count-same, count-less}
 use Rattle.tomo_base.proofs.Parting.{minus-out}
 use Rattle.tomo_base.proofs.Reaching.{is_node}
+use Rattle.gate_search.proofs.Cutting.{Cut, cut_off}
 use Rattle.gate_search.specs.declared.search.GateSearch.{GateSearch}
 use Rattle.blocks.specs.declared.block_list.Work.{Work}
 use Rattle.blocks.specs.Sides.{AreSides}
-use Rattle.blocks.specs.Growing.{IsGrown, HasOneGate}
+use Rattle.gate_search.specs.Advancing.{IsGrown, HasOneGate}
 use Rattle.blocks.specs.Working.{sets_in, IsPutOff, Working, weight_of}
-use Rattle.blocks.proofs.CutSets.{Cut}
 use Rattle.blocks.proofs.CuttingAt.{cuts_same}
 use Rattle.blocks.proofs.Working.{cutting-same}
 use Rattle.blocks.proofs.Parts.{cut_in_two, put_first, put_last}
-use Rattle.blocks.proofs.CutOff.{cut_off, rest_is, sides_cut}
+use Rattle.blocks.proofs.CutOff.{rest_is, sides_cut}
 
 -- the set at hand may be told by another test
 pub same_hand : (g : Network) (S T : ℕ → Bool) (work : Work) → ((v : ℕ) → T v ≡ S v) → Working g (S ∷ []) work → Working g (T ∷ []) work × (weight_of g (T ∷ []) work ≡ weight_of g (S ∷ []) work)
@@ -40,12 +41,12 @@ same_hand g S T work same w =
     )
 
 -- what a search that met one gate alone has reached is put off
-pub divided : (g : Network) (root : ℕ) (w left : ℕ → Bool) (free : List Bool) (s : GateSearch) (d : ℕ) (old new : Work) → HasOneGate g w free s d → IsGrown g root w (mark_of free)
+pub divided : (g : Network) (root : ℕ) (w left : ℕ → Bool) (free : List Bool) (s : GateSearch) (d : ℕ) (old new : Work) → HasOneGate g w free s d → IsGrown g everything root w (mark_of free)
     → IsPutOff g s.found.order.items d old.todo.items new.todo.items → new.found.items ≡ old.found.items → new.cuts.items ≡ set old.cuts.items d true → ((v : ℕ) → left v ≡ minus w (has s.found.order.items) v)
     → Working g (w ∷ []) old → Working g (left ∷ []) new × (weight_of g (left ∷ []) new < weight_of g (w ∷ []) old)
 divided g root w left free s d old new off h put found_is cuts_is left_is work =
     let K : ℕ → Bool = has s.found.order.items in
-    let cut : Cut g w d K = cut_off g root w free s d work.graph off h in
+    let cut : Cut g w d K = cut_off g everything root w free s d work.graph off h in
     let rest = rest_is w left K d g cut left_is in
     let mid : Work = record { todo = old.todo; found = old.found; cuts = new.cuts } in
     let two = cut_in_two g w d K (has put.part.items) left old mid refl refl cuts_is cut (λ v m. put.nodes v ∙ m) (λ v m. sym (put.nodes v) ∙ m) rest.0 rest.1 work in

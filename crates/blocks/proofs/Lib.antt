@@ -8,7 +8,6 @@ pub mod CutSets
 pub mod Cutting
 pub mod Unparted
 pub mod CuttingAt
-pub mod Holding
 pub mod Parts
 pub mod CutOff
 pub mod Dividing

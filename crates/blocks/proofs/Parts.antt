@@ -25,7 +25,8 @@ use Rattle.blocks.specs.Cutting.{Each, Ready, Cutting, AreCuts, weight}
 use Rattle.blocks.specs.Working.{sets_in, Working, weight_of}
 use Rattle.blocks.proofs.SameSets.{contains_map}
 use Rattle.blocks.proofs.SetLists.{each-map}
-use Rattle.blocks.proofs.CutSets.{Block, Cut, rest, cut-count}
+use Rattle.gate_search.proofs.Cutting.{Cut}
+use Rattle.blocks.proofs.CutSets.{Block, rest, cut-count}
 use Rattle.blocks.proofs.Cutting.{cutting-start, cutting-ready, cutting-cut, cutting-end}
 use Rattle.blocks.proofs.CuttingAt.{cuts_none, cuts_more, cuts_ready, cuts_swap, cuts_same}
 use Rattle.blocks.proofs.Working.{contains_reverse, reverse_contains, each_at, some_at, sets_push, cutting-same, cutting-swap, block-to, block-from, same_test}

@@ -1,5 +1,4 @@
 pub mod Blocks
 pub mod Sides
 pub mod Cutting
-pub mod Growing
 pub mod Working

@@ -9,11 +9,10 @@ ghost use Rattle.tomo_base.specs.Blocks.{IsBlock, IsCutVertex};
 ghost use Rattle.tomo_base.specs.SetLists.{IsSetBelow, AreSetsWith, AreAllSets, lists_of};
 ghost use Rattle.blocks.specs.Working.{IsPutOff, Working, weight_of};
 
-use crate::growing::{Growth, begin, hold_way, step};
 use crate::marks::{marked_nodes, unmark};
 use crate::node_lists::ordered_sets;
 use crate::sides::sides_at;
-use gate_search::{GateSearch, take_free};
+use gate_search::{Advance, GateSearch, advance_from, free_at_first, hold_way, take_free};
 use std::alloc::Global;
 use std::marker::Model;
 use tomo_base::{Graph, NoMemory, NodeSet, NodeSets, marks_of};
@@ -122,16 +121,16 @@ fn grow_block(
     ensures room { OnOk result (IsRoom g.now.nodes search.new.found) }
 {
     let mut nodes = marks_of(alloc, g.nodes(), part)?;
-    let mut free = begin(alloc, g, &nodes, root)?;
+    let mut free = free_at_first(alloc, g, &nodes, root)?;
     let mut starts = Vec::new(alloc);
     let mut i = 0;
     while i < part.len() {
         let x = part[i];
         if free[x as usize] {
             let start = take_free(&free, &mut starts, x);
-            match step(g, &nodes, &free, start, search)? {
-                Growth::Way(y) => hold_way(g, search, y, &mut free, &mut starts)?,
-                Growth::Cut(d) => {
+            match advance_from(g, &nodes, &free, start, search)? {
+                Advance::Way(y) => hold_way(g, search, y, &mut free, &mut starts)?,
+                Advance::Cut(d) => {
                     put_off(alloc, g, part, &search.found.order, d, work)?;
                     unmark(&mut nodes, &search.found.order);
                     unmark(&mut free, &search.found.order);

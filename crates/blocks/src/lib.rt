@@ -2,7 +2,6 @@
 #![tactic(auto)]
 
 mod block_list;
-mod growing;
 mod marks;
 mod node_lists;
 mod sides;

@@ -1,3 +1,4 @@
 pub mod Gates
 pub mod Trees
 pub mod Stops
+pub mod Advancing

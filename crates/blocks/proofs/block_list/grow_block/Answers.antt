@@ -2,6 +2,7 @@ use Rattle.std.proofs.Common.{◌≡◌, ◌≤◌, ◌<◌, ◌∙◌, ℕ, tru
 use Rattle.std.proofs.lemmas.Bool.{and_left, and_parts}
 use Rattle.std.specs.List.{filter}
 use Rattle.tomo_base.specs.Sets.{has, minus}
+use Rattle.tomo_base.specs.Walks.{everything}
 use Rattle.tomo_base.specs.Search.{mark_of, entry_at}
 use Rattle.tomo_base.specs.Parting.{AreJoinedIn, IsJoinedWithoutOne}
 use Rattle.tomo_base.proofs.Ascending.{All-has, place_in}
@@ -10,7 +11,7 @@ use Rattle.gate_search.proofs.Marks.{mark_below}
 use Rattle.gate_search.proofs.Trees.{order_below, free_in, first_in}
 use Rattle.gate_search.proofs.Stopping.{searched_room}
 use Rattle.blocks.specs.declared.block_list.Work.{Work}
-use Rattle.blocks.specs.Growing.{HasTwoGates, HasOneGate}
+use Rattle.gate_search.specs.Advancing.{HasTwoGates, HasOneGate}
 use Rattle.blocks.specs.Working.{weight_of}
 use Rattle.blocks.proofs.Filtering.{has-marked, IsSetBelow-filter}
 use Rattle.blocks.proofs.CutOff.{grown_less, all_held}
@@ -29,7 +30,7 @@ loop-i-init c =
       working = hand.0;
       lighter = lighter;
       inside = λ v t. sym (same v) ∙ t;
-      grown = rw c.deref.ensures.value at c.in_ok-free.ensures.grown;
+      grown = rw c.deref.ensures.value at c.in_ok-free.ensures.grown everything (λ v t. refl);
       marks = c.in_ok-nodes.ensures.length ∙ c.nodes.ensures.nodes;
       size = c.in_ok-free.ensures.size;
       starts = λ k d l. absurd (omega (arith, l, ap length c.new-starts.ensures.items));
@@ -37,8 +38,8 @@ loop-i-init c =
       passed = λ v l. absurd (omega (arith, l));
     }
 
-pub step-requires-clause-joined : goal.step-requires-clause-joined
-step-requires-clause-joined c =
+pub advance_from-requires-clause-joined : goal.advance_from-requires-clause-joined
+advance_from-requires-clause-joined c =
     let g = c.args.g.now in
     let grown = c.loop-i.invariant.grown in
     let root = c.args.root in
@@ -54,13 +55,13 @@ pub loop-i-preserved-in_ok-hold_way-in-Way : goal.loop-i-preserved-in_ok-hold_wa
 loop-i-preserved-in_ok-hold_way-in-Way c =
     let g = c.args.g.now in
     let inv = c.loop-i.invariant in
-    let s = c.step.new.search in
+    let s = c.advance_from.new.search in
     let way : HasTwoGates g (mark_of c.loop-i.nodes.items) c.loop-i.free.items s c.in-Way.y = rw (c.deref-then-index-2.ensures.value, c.deref-then-index-3.ensures.value, c.in-Way.is) at c.in_ok-y.ensures in
     record {
       working = inv.working;
       lighter = inv.lighter;
       inside = inv.inside;
-      grown = c.in_ok-hold_way-in-Way.ensures.grown c.args.root (mark_of c.loop-i.nodes.items) way inv.grown;
+      grown = c.in_ok-hold_way-in-Way.ensures.grown everything c.args.root (mark_of c.loop-i.nodes.items) way inv.grown;
       marks = inv.marks;
       size = c.in_ok-hold_way-in-Way.ensures.size;
       starts = c.in_ok-hold_way-in-Way.ensures.starts;
@@ -71,14 +72,14 @@ loop-i-preserved-in_ok-hold_way-in-Way c =
 pub put_off-requires-clause-side : goal.put_off-requires-clause-side
 put_off-requires-clause-side c =
     let g = c.args.g.now in
-    let s = c.step.new.search in
+    let s = c.advance_from.new.search in
     let off : HasOneGate g (mark_of c.loop-i.nodes.items) c.loop-i.free.items s c.in-Cut.d = rw (c.deref-then-index-2.ensures.value, c.deref-then-index-3.ensures.value, c.in-Cut.is) at c.in_ok-y.ensures in
     rw c.deref-in-Cut.ensures.value (order_below g c.loop-i.free.items s.start s.head s.found c.loop-i.invariant.working.graph off.search.search)
 
 pub put_off-requires-clause-inside : goal.put_off-requires-clause-inside
 put_off-requires-clause-inside c =
     let g = c.args.g.now in
-    let s = c.step.new.search in
+    let s = c.advance_from.new.search in
     let inv = c.loop-i.invariant in
     let off : HasOneGate g (mark_of c.loop-i.nodes.items) c.loop-i.free.items s c.in-Cut.d = rw (c.deref-then-index-2.ensures.value, c.deref-then-index-3.ensures.value, c.in-Cut.is) at c.in_ok-y.ensures in
     rw c.deref-in-Cut.ensures.value (λ v m. inv.inside v (inv.grown.free_in v (free_in g c.loop-i.free.items s.start s.head s.found inv.working.graph off.search.search v m)))
@@ -86,7 +87,7 @@ put_off-requires-clause-inside c =
 pub unmark-requires : goal.unmark-requires
 unmark-requires c =
     let g = c.args.g.now in
-    let s = c.step.new.search in
+    let s = c.advance_from.new.search in
     let off : HasOneGate g (mark_of c.loop-i.nodes.items) c.loop-i.free.items s c.in-Cut.d = rw (c.deref-then-index-2.ensures.value, c.deref-then-index-3.ensures.value, c.in-Cut.is) at c.in_ok-y.ensures in
     let below = order_below g c.loop-i.free.items s.start s.head s.found c.loop-i.invariant.working.graph off.search.search in
     rw c.deref-in-Cut-2.ensures.value (λ k d l. omega (arith, below k d l, c.loop-i.invariant.marks))
@@ -94,7 +95,7 @@ unmark-requires c =
 pub unmark-requires-in-Cut : goal.unmark-requires-in-Cut
 unmark-requires-in-Cut c =
     let g = c.args.g.now in
-    let s = c.step.new.search in
+    let s = c.advance_from.new.search in
     let off : HasOneGate g (mark_of c.loop-i.nodes.items) c.loop-i.free.items s c.in-Cut.d = rw (c.deref-then-index-2.ensures.value, c.deref-then-index-3.ensures.value, c.in-Cut.is) at c.in_ok-y.ensures in
     let below = order_below g c.loop-i.free.items s.start s.head s.found c.loop-i.invariant.working.graph off.search.search in
     rw c.deref-in-Cut-3.ensures.value (λ k d l. omega (arith, below k d l, c.loop-i.invariant.size))
@@ -102,7 +103,7 @@ unmark-requires-in-Cut c =
 pub loop-i-smaller-in-Cut : goal.loop-i-smaller-in-Cut
 loop-i-smaller-in-Cut c =
     let g = c.args.g.now in
-    let s = c.step.new.search in
+    let s = c.advance_from.new.search in
     let free = c.loop-i.free.items in
     let graph = c.loop-i.invariant.working.graph in
     let off : HasOneGate g (mark_of c.loop-i.nodes.items) free s c.in-Cut.d = rw (c.deref-then-index-2.ensures.value, c.deref-then-index-3.ensures.value, c.in-Cut.is) at c.in_ok-y.ensures in
@@ -115,7 +116,7 @@ loop-i-smaller-in-Cut c =
 pub loop-i-preserved-in-Cut : goal.loop-i-preserved-in-Cut
 loop-i-preserved-in-Cut c =
     let g = c.args.g.now in
-    let s = c.step.new.search in
+    let s = c.advance_from.new.search in
     let inv = c.loop-i.invariant in
     let nodes = c.loop-i.nodes.items in
     let free = c.loop-i.free.items in
@@ -132,7 +133,7 @@ loop-i-preserved-in-Cut c =
       working = next.0;
       lighter = lighter;
       inside = λ v t. inv.inside v (and_parts (mark_of nodes v) (not (has s.found.order.items v)) (sym (nodes_are v) ∙ t)).0;
-      grown = grown_less g root (mark_of nodes) (mark_of free) left (mark_of c.unmark-in-Cut.new.marks.items) (has s.found.order.items) (λ v m. free_in g free s.start s.head s.found inv.working.graph off.search.search v m) nodes_are free_are inv.grown;
+      grown = grown_less g everything root (mark_of nodes) (mark_of free) left (mark_of c.unmark-in-Cut.new.marks.items) (has s.found.order.items) (λ v m. free_in g free s.start s.head s.found inv.working.graph off.search.search v m) nodes_are free_are inv.grown;
       marks = c.unmark.ensures.length ∙ inv.marks;
       size = c.unmark-in-Cut.ensures.length ∙ inv.size;
       starts = λ k d l. omega (arith, c.take_free-start.ensures.starts k d l, ap length c.deref-then-index.ensures.value, inv.size);

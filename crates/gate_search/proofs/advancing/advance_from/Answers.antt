@@ -3,8 +3,8 @@ use Rattle.tomo_base.specs.Search.{mark_of}
 use Rattle.gate_search.specs.Gates.{IsGateOf}
 use Rattle.gate_search.specs.Stops.{IsAtGate, IsGateless}
 use Rattle.gate_search.proofs.Trees.{ranked_in}
-use Rattle.blocks.proofs.CutOff.{gateless_reaches}
-use Rattle.blocks.proofs.growing.step.Goals as goal
+use Rattle.gate_search.proofs.Cutting.{gateless_reaches}
+use Rattle.gate_search.proofs.advancing.advance_from.Goals as goal
 
 pub unreachable-requires : goal.unreachable-requires
 unreachable-requires c =

@@ -2,7 +2,7 @@ use Rattle.std.proofs.Common.{◌≡◌, ◌<◌, ◌⊎◌, ℕ, true, false, g
 use Rattle.tomo_base.specs.Network.{linked}
 use Rattle.tomo_base.specs.declared.graph.Hop.{Hop}
 use Rattle.tomo_base.specs.Search.{mark_of}
-use Rattle.blocks.proofs.growing.begin.Given as goal
+use Rattle.gate_search.proofs.advancing.free_at_first.Given as goal
 
 -- the root has no mark, nor have the nodes of the hops so far; no other node of the set has lost its mark, and none got one
 abbrev pub invariant-loop-hop : goal.invariant-loop-hop

@@ -1,10 +1,10 @@
 -- Nodes on a way between two held nodes may be held.
-use Rattle.std.proofs.Common.{◌≡◌, ◌≢◌, ℕ, ◌+◌, ◌<◌, ◌≤◌, ◌⊎◌, Bool, true, false, List, length, get_or, set, IsTrue, refl, sym, ap, subst, ◌∙◌, inl, inr, arith, get_or-set_same, get_or-set_other}
+use Rattle.std.proofs.Common.{◌≡◌, ◌≢◌, ℕ, ◌+◌, ◌<◌, ◌≤◌, ◌⊎◌, Bool, true, false, List, length, get_or, set, IsTrue, sym, ap, subst, ◌∙◌, inl, inr, arith, get_or-set_same, get_or-set_other}
 use Rattle.std.proofs.lemmas.Bool.{cases_eq, cases_lt, cases_Bool, both_ways}
 use Rattle.std.proofs.lemmas.List.{get_or_default}
 use Rattle.tomo_base.specs.Network.{Network, linked, IsGraph}
 use Rattle.tomo_base.specs.Sets.{without, Within}
-use Rattle.tomo_base.specs.Walks.{Reaches, everything}
+use Rattle.tomo_base.specs.Walks.{Reaches}
 use Rattle.tomo_base.specs.Search.{mark_of, entry_at}
 use Rattle.tomo_base.specs.Table.{AreHops}
 use Rattle.tomo_base.specs.declared.graph.Hop.{Hop}
@@ -22,14 +22,15 @@ use Rattle.gate_search.specs.declared.search.GateSearch.{GateSearch}
 use Rattle.tomo_base.proofs.Rows.{hop_linked}
 use Rattle.gate_search.proofs.Marks.{still_gone}
 use Rattle.gate_search.proofs.Trees.{ranked_at, free_in, ranked_free, is_tree, parent_linked, first_in, ranked_in}
-use Rattle.blocks.specs.Growing.{IsGrown, HasTwoGates}
+use Rattle.gate_search.specs.Advancing.{IsGrown, HasTwoGates}
 use Rattle.tomo_base.proofs.Reached.{ranked_below, placed_free, way_up}
 
 -- a node with two ways to held nodes may be held: a link to one, and a walk to another that does not meet that one
-pub held_more : (g : Network) (root : ℕ) (w : ℕ → Bool) (free : List Bool) (v foot a x : ℕ) → v < length free → IsGrown g root w (mark_of free) → IsTrue (w v) → IsTrue (linked g v foot) → IsTrue (w foot) → mark_of free foot ≡ false
-    → IsTrue (w a) → mark_of free a ≡ false → foot ≢ a → IsTrue (linked g x a) → (x ≢ foot) ⊎ (v ≡ x) → ((c : ℕ) → c ≡ foot → v ≢ c → Reaches g (without everything c) x v)
-    → IsGrown g root w (mark_of (set free v false))
-held_more g root w free v foot a x room h v_in link foot_in foot_held a_in a_held ne start off walk = record {
+pub held_more : (g : Network) (base : ℕ → Bool) (root : ℕ) (w : ℕ → Bool) (free : List Bool) (v foot a x : ℕ) → v < length free → IsGrown g base root w (mark_of free) → IsTrue (w v) → IsTrue (linked g v foot) → IsTrue (w foot) → mark_of free foot ≡ false
+    → IsTrue (w a) → mark_of free a ≡ false → foot ≢ a → IsTrue (linked g x a) → IsTrue (base x) → (x ≢ foot) ⊎ (v ≡ x) → ((c : ℕ) → c ≡ foot → v ≢ c → Reaches g (without base c) x v)
+    → IsGrown g base root w (mark_of (set free v false))
+held_more g base root w free v foot a x room h v_in link foot_in foot_held a_in a_held ne start x_base off walk = record {
+  in_base = h.in_base;
   root_in = h.root_in;
   root_held = kept root h.root_held;
   free_in = λ u t. h.free_in u (elim (cases_eq u v) [
@@ -39,7 +40,7 @@ held_more g root w free v foot a x room h v_in link foot_in foot_held a_in a_hel
   near = λ u l t. kept u (h.near u l t);
   joined = λ c u rc uc t f. elim (cases_eq u v) [
     | inr other ↦ h.joined c u rc uc t (sym (get_or-set_other free v u false false other) ∙ f)
-    | inl same ↦ subst (λ z. AreJoinedIn g (without everything c) root z) (sym same) (here c rc (λ e. uc (same ∙ e)))
+    | inl same ↦ subst (λ z. AreJoinedIn g (without base c) root z) (sym same) (here c rc (λ e. uc (same ∙ e)))
   ];
 }
   where
@@ -49,20 +50,20 @@ held_more g root w free v foot a x room h v_in link foot_in foot_held a_in a_hel
       | inr other ↦ get_or-set_other free v u false false other ∙ f
     ]
 
-    here : (c : ℕ) → c ≢ root → v ≢ c → AreJoinedIn g (without everything c) root v
+    here : (c : ℕ) → c ≢ root → v ≢ c → AreJoinedIn g (without base c) root v
     here c rc vc = elim (cases_eq foot c) [
-      | inr other ↦ joined-trans g (without everything c) root foot v (h.joined c foot rc other foot_in foot_held) (joined-step g (without everything c) foot v (linked_comm g v foot link) (without-from everything c v refl vc))
+      | inr other ↦ joined-trans g (without base c) root foot v (h.joined c foot rc other foot_in foot_held) (joined-step g (without base c) foot v (linked_comm g v foot link) (without-from base c v (h.in_base v v_in) vc))
       | inl same ↦
           let ac : a ≢ c = λ e. ne (same ∙ sym e) in
           let xc : x ≢ c = λ e. elim off [ inl o ↦ o (e ∙ sym same) | inr o ↦ vc (o ∙ e) ] in
-          joined-trans g (without everything c) root a v (h.joined c a rc ac a_in a_held)
-          (joined-trans g (without everything c) a x v (joined-step g (without everything c) a x (linked_comm g x a start) (without-from everything c x refl xc))
-          (Reaches-joined g (without everything c) x v (walk c (sym same) vc)))
+          joined-trans g (without base c) root a v (h.joined c a rc ac a_in a_held)
+          (joined-trans g (without base c) a x v (joined-step g (without base c) a x (linked_comm g x a start) (without-from base c x x_base xc))
+          (Reaches-joined g (without base c) x v (walk c (sym same) vc)))
     ]
 
 -- what is held while the nodes on the way up from y to the start are held: the node at hand has a link to a held node
-pub record IsOnWay (g : Network) (root : ℕ) (w : ℕ → Bool) (free₀ : List Bool) (s : GateSearch) (first : ℕ) (free : List Bool) (v : ℕ) : Type 0 where
-  pub grown : IsGrown g root w (mark_of free)
+pub record IsOnWay (g : Network) (base : ℕ → Bool) (root : ℕ) (w : ℕ → Bool) (free₀ : List Bool) (s : GateSearch) (first : ℕ) (free : List Bool) (v : ℕ) : Type 0 where
+  pub grown : IsGrown g base root w (mark_of free)
   pub inside : Within (mark_of free₀) w
   pub still : (u : ℕ) → mark_of free₀ u ≡ false → mark_of free u ≡ false
   pub foot : ℕ
@@ -104,9 +105,9 @@ module _ (g : Network) (free₀ : List Bool) (s : GateSearch) (graph : IsGraph g
     | inl r ↦ absurd (both_ways (mark_of free₀ v) out (ranked_free g free₀ s.start s.head s.found graph is.search v (omega (arith, l, is.search.parents), omega (arith, r, is.search.parents))).1)
   ]
 
-  module _ (root : ℕ) (w : ℕ → Bool) where
+  module _ (base : ℕ → Bool) (root : ℕ) (w : ℕ → Bool) where
     -- at the other gate
-    pub way_begins : (y : ℕ) → (way : HasTwoGates g w free₀ s y) → IsGrown g root w (mark_of free₀) → IsOnWay g root w free₀ s way.first free₀ y
+    pub way_begins : (y : ℕ) → (way : HasTwoGates g w free₀ s y) → IsGrown g base root w (mark_of free₀) → IsOnWay g base root w free₀ s way.first free₀ y
     way_begins y way h =
         let outer = (linked_below g.nodes g.links y way.second graph way.other_gate.linked).1 in
         record {
@@ -122,7 +123,7 @@ module _ (g : Network) (free₀ : List Bool) (s : GateSearch) (graph : IsGraph g
         }
 
     -- the node at hand may be held
-    pub way_holds : (first : ℕ) → IsGate g w (mark_of free₀) s.start g.nodes g.nodes first → (free : List Bool) (v : ℕ) → v < length free → IsRanked s.found v → IsOnWay g root w free₀ s first free v → IsGrown g root w (mark_of (set free v false))
+    pub way_holds : (first : ℕ) → IsGate g w (mark_of free₀) s.start g.nodes g.nodes first → (free : List Bool) (v : ℕ) → v < length free → IsRanked s.found v → IsOnWay g base root w free₀ s first free v → IsGrown g base root w (mark_of (set free v false))
     way_holds first gate free v room ranked on =
         let n = g.nodes in
         let rank = entry_at s.found.rank.items in
@@ -131,19 +132,21 @@ module _ (g : Network) (free₀ : List Bool) (s : GateSearch) (graph : IsGraph g
         let low : ℕ → Bool = ranked_below n s.found.rank.items (rank v) in
         let up : Reaches g low v s.start = subst (λ o. Reaches g low o s.start) at.2 (way_up g free₀ s.start s.head s.found.order.items s.found.parent.items s.found.rank.items graph is.search (rank v + 1) (rank v) (omega arith) at.1) in
         let lower : (z : ℕ) → IsTrue (low z) → rank z < rank v = λ z t. (placed_free g free₀ s.start s.head s.found.order.items s.found.parent.items s.found.rank.items graph is.search z (rank v) few t).1 in
-        held_more g root w free v on.foot first s.start room on.grown (on.inside v (ranked_free g free₀ s.start s.head s.found graph is.search v ranked).1) on.foot_linked on.foot_in on.foot_held
-        gate.in_set (on.still first gate.not_free) on.foot_other gate.linked
+        let is_free = (ranked_free g free₀ s.start s.head s.found graph is.search v ranked).1 in
+        let in_base : (z : ℕ) → mark_of free₀ z ≡ true → IsTrue (base z) = λ z t. on.grown.in_base z (on.inside z t) in
+        held_more g base root w free v on.foot first s.start room on.grown (on.inside v is_free) on.foot_linked on.foot_in on.foot_held
+        gate.in_set (on.still first gate.not_free) on.foot_other gate.linked (in_base s.start (free_in g free₀ s.start s.head s.found graph is.search s.start (first_in g free₀ s.start s.head s.found graph is.search)))
         (elim (cases_eq v s.start) [
           | inl same ↦ inr same
           | inr other ↦ inl (λ e. other (only_start v ranked (let top : rank s.start ≡ rank on.foot = ap rank e in omega (arith, start_ranked.1, top, on.foot_above))))
         ])
-        (λ c same vc. Reaches_comm g (without everything c) v s.start (without-from everything c v refl vc)
-        (Reaches-within g low (without everything c) v s.start (λ z t. without-from everything c z refl (λ e.
+        (λ c same vc. Reaches_comm g (without base c) v s.start (without-from base c v (in_base v is_free) vc)
+        (Reaches-within g low (without base c) v s.start (λ z t. without-from base c z (in_base z (placed_free g free₀ s.start s.head s.found.order.items s.found.parent.items s.found.rank.items graph is.search z (rank v) few t).4) (λ e.
         let equal : rank z ≡ rank on.foot = ap rank (e ∙ same) in omega (arith, lower z t, on.foot_above, equal))) up))
 
     -- then its parent is at hand
-    pub way_on : (first : ℕ) → IsGate g w (mark_of free₀) s.start g.nodes g.nodes first → (free : List Bool) (v : ℕ) → v < length free → IsRanked s.found v → v ≢ s.start → IsOnWay g root w free₀ s first free v
-        → IsOnWay g root w free₀ s first (set free v false) (entry_at s.found.parent.items v)
+    pub way_on : (first : ℕ) → IsGate g w (mark_of free₀) s.start g.nodes g.nodes first → (free : List Bool) (v : ℕ) → v < length free → IsRanked s.found v → v ≢ s.start → IsOnWay g base root w free₀ s first free v
+        → IsOnWay g base root w free₀ s first (set free v false) (entry_at s.found.parent.items v)
     way_on first gate free v room ranked other on =
         let some : 1 ≤ entry_at s.found.rank.items v = elim (cases_lt 0 (entry_at s.found.rank.items v)) [ inl l ↦ omega (arith, l) | inr none ↦ absurd (other (only_start v ranked (omega (arith, none)))) ] in
         let up = (is_tree g free₀ s.start s.head s.found graph is.search).up v ranked some in
@@ -164,16 +167,17 @@ module _ (g : Network) (free₀ : List Bool) (s : GateSearch) (graph : IsGraph g
         }
 
 -- at first the root and its neighbours are held
-pub held_first : (g : Network) (root : ℕ) (w free : ℕ → Bool) → IsTrue (w root) → free root ≡ false → ((v : ℕ) → IsTrue (free v) → IsTrue (w v)) → ((v : ℕ) → IsTrue (linked g root v) → free v ≡ false)
-    → ((v : ℕ) → IsTrue (w v) → free v ≡ false → (v ≡ root) ⊎ IsTrue (linked g root v)) → IsGrown g root w free
-held_first g root w free root_in root_held inside near only = record {
+pub held_first : (g : Network) (base : ℕ → Bool) (root : ℕ) (w free : ℕ → Bool) → Within w base → IsTrue (w root) → free root ≡ false → ((v : ℕ) → IsTrue (free v) → IsTrue (w v)) → ((v : ℕ) → IsTrue (linked g root v) → free v ≡ false)
+    → ((v : ℕ) → IsTrue (w v) → free v ≡ false → (v ≡ root) ⊎ IsTrue (linked g root v)) → IsGrown g base root w free
+held_first g base root w free in_base root_in root_held inside near only = record {
+  in_base = in_base;
   root_in = root_in;
   root_held = root_held;
   free_in = inside;
   near = λ v l t. near v l;
   joined = λ c v rc vc t f. elim (only v t f) [
-    | inl same ↦ subst (λ z. AreJoinedIn g (without everything c) root z) (sym same) (λ X h x. x)
-    | inr l ↦ joined-step g (without everything c) root v l (without-from everything c v refl vc)
+    | inl same ↦ subst (λ z. AreJoinedIn g (without base c) root z) (sym same) (λ X h x. x)
+    | inr l ↦ joined-step g (without base c) root v l (without-from base c v (in_base v t) vc)
   ];
 }
 

@@ -4,8 +4,8 @@ use Rattle.std.proofs.lemmas.List.{get_or_read}
 use Rattle.tomo_base.specs.Search.{mark_of, entry_at}
 use Rattle.gate_search.proofs.Marks.{still_gone}
 use Rattle.gate_search.proofs.Trees.{is_tree, ranked_at}
-use Rattle.blocks.proofs.Holding.{way_begins, way_on, way_holds, way_fewer, only_start}
-use Rattle.blocks.proofs.growing.hold_way.Goals as goal
+use Rattle.gate_search.proofs.Holding.{way_begins, way_on, way_holds, way_fewer, only_start}
+use Rattle.gate_search.proofs.advancing.hold_way.Goals as goal
 
 pub loop-v-init : goal.loop-v-init
 loop-v-init c = record {
@@ -13,7 +13,7 @@ loop-v-init c = record {
   starts = c.requires.starts;
   ranked = c.requires.ranked;
   passed = λ u f. f;
-  way = λ root w way h. way_begins c.args.g.now c.args.free.now.items c.args.search.now c.nodes-count.ensures.graph c.requires.search root w c.args.y way h;
+  way = λ base root w way h. way_begins c.args.g.now c.args.free.now.items c.args.search.now c.nodes-count.ensures.graph c.requires.search base root w c.args.y way h;
 }
 
 pub loop-v-preserved : goal.loop-v-preserved
@@ -37,7 +37,7 @@ loop-v-preserved c =
       starts = c.in_ok-hold.ensures.starts;
       ranked = ((is_tree g first s.start s.head s.found graph c.requires.search.search).up v inv.ranked some).0;
       passed = λ u f. still_gone free v u room (inv.passed u f);
-      way = λ root w way h. way_on g first s graph c.requires.search root w way.first way.start_gate free v room inv.ranked c.loop-v-test.true (inv.way root w way h);
+      way = λ base root w way h. way_on g first s graph c.requires.search base root w way.first way.start_gate free v room inv.ranked c.loop-v-test.true (inv.way base root w way h);
     })
 
 pub returns-clause-fewer : goal.returns-clause-fewer
@@ -60,5 +60,5 @@ returns-clause-grown c =
     let s = c.args.search.now in
     let inv = c.loop-v.invariant in
     let node = (ranked_at g first s.start s.head s.found c.nodes-count.ensures.graph c.requires.search.search c.loop-v.v inv.ranked).0 in
-    λ root w way h. rw c.in_ok-hold-2.ensures.free
-    (way_holds g first s c.nodes-count.ensures.graph c.requires.search root w way.first way.start_gate c.loop-v.free.items c.loop-v.v (omega (arith, node, inv.size)) inv.ranked (inv.way root w way h))
+    λ base root w way h. rw c.in_ok-hold-2.ensures.free
+    (way_holds g first s c.nodes-count.ensures.graph c.requires.search base root w way.first way.start_gate c.loop-v.free.items c.loop-v.v (omega (arith, node, inv.size)) inv.ranked (inv.way base root w way h))

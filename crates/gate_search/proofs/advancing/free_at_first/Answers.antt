@@ -1,9 +1,9 @@
 use Rattle.std.proofs.Common.{◌≡◌, refl, false, get_or, arith, length-set, subst, ◌∙◌}
 use Rattle.tomo_base.specs.declared.graph.Hop.{Hop}
 use Rattle.tomo_base.specs.Search.{mark_of}
-use Rattle.blocks.proofs.Holding.{hop_freed, held_first}
+use Rattle.gate_search.proofs.Holding.{hop_freed, held_first}
 use Rattle.tomo_base.proofs.Rows.{hops_below, linked_hop}
-use Rattle.blocks.proofs.growing.begin.Goals as goal
+use Rattle.gate_search.proofs.advancing.free_at_first.Goals as goal
 
 pub index_mut-requires-in-loop-hop : goal.index_mut-requires-in-loop-hop
 index_mut-requires-in-loop-hop c =
@@ -27,8 +27,8 @@ loop-hop-preserved c =
 
 pub returns-clause-grown : goal.returns-clause-grown
 returns-clause-grown c =
-    let inv = c.loop-hop.invariant in
-    held_first c.args.g.now c.args.root (mark_of c.args.nodes.now) (mark_of c.loop-hop.free.items) c.requires.root inv.root inv.inside
+    let inv = c.loop-hop.invariant in λ base within.
+    held_first c.args.g.now base c.args.root (mark_of c.args.nodes.now) (mark_of c.loop-hop.free.items) within c.requires.root inv.root inv.inside
     (λ v l.
     let at = linked_hop c.args.g.now c.args.root v c.hops-hop-items.result.now c.hops-hop-items.ensures l in
     let e : Hop = record { node = 0; link = 0 } in

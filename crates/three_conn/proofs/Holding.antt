@@ -1,9 +1,9 @@
--- A node with three ways to held nodes may be held; and what two nodes part the set where all nodes are held from two roots.
-use Rattle.std.proofs.Common.{◌≡◌, ◌≢◌, ℕ, ◌⊎◌, Bool, true, false, ◌==◌, [], ◌∷◌, IsTrue, refl, sym, subst, ◌∙◌, inl, inr}
-use Rattle.std.proofs.lemmas.Bool.{cases_Bool, cases_eq, both_ways, or_cases, or_left, eqb-true}
+-- A node with three ways to held nodes may be held; and where all nodes are held no two nodes other than the root part the set.
+use Rattle.std.proofs.Common.{◌≡◌, ◌≢◌, ℕ, ◌⊎◌, Bool, true, false, ◌==◌, [], ◌∷◌, IsTrue, refl, sym, subst, inl, inr}
+use Rattle.std.proofs.lemmas.Bool.{cases_Bool, both_ways, or_cases, or_left, eqb-true}
 use Rattle.tomo_base.specs.Network.{Network, linked}
 use Rattle.tomo_base.specs.Sets.{Within, Apart}
-use Rattle.tomo_base.specs.Walks.{Reaches, IsConnectedIn}
+use Rattle.tomo_base.specs.Walks.{Reaches}
 use Rattle.tomo_base.proofs.Walks.{Reaches-trans, Reaches_comm, Reaches-within, connected_by}
 use Rattle.tomo_base.specs.Parting.{with_one, without_two}
 use Rattle.three_conn.specs.Held.{IsHeld, IsWholeBeside}
@@ -82,27 +82,3 @@ pub held_whole : (g : Network) (w held : ℕ → Bool) (root : ℕ) → IsHeld g
 held_whole g w held root h all c d rc rd =
     connected_by g (without_two w c d) root (without_two-from w c d root h.root_in (λ e. rc (sym e)) (λ e. rd (sym e)))
     (λ v l t. h.joined c d v rc rd (all v (without_two_gives w c d v t).0) t)
-
--- the same nodes stay without the two in the other order
-turned : (w : ℕ → Bool) (c d v : ℕ) → IsTrue (without_two w c d v) → IsTrue (without_two w d c v)
-turned w c d v t = let at = without_two_gives w c d v t in without_two-from w d c v at.0 at.2 at.1
-
--- and they are connected
-connected_turned : (g : Network) (w : ℕ → Bool) (c d : ℕ) → IsConnectedIn g (without_two w c d) → IsConnectedIn g (without_two w d c)
-connected_turned g w c d pair a b la lb ta tb = Reaches-within g (without_two w c d) (without_two w d c) a b (turned w c d) (pair a b la lb (turned w d c a ta) (turned w d c b tb))
-
--- no two nodes part a set that none part beside the one root, none beside the other, and not the two together
-pub two_roots : (g : Network) (w : ℕ → Bool) (r s : ℕ) → r ≢ s → IsWholeBeside g w r → IsWholeBeside g w s → IsConnectedIn g (without_two w r s) → (c d : ℕ) → IsConnectedIn g (without_two w c d)
-two_roots g w r s differ first second pair c d = elim (cases_eq c r) [
-  | inl cr ↦ elim (cases_eq d s) [
-    | inl ds ↦ subst (λ z. IsConnectedIn g (without_two w z d)) (sym cr) (subst (λ z. IsConnectedIn g (without_two w r z)) (sym ds) pair)
-    | inr nd ↦ second c d (λ cs. differ (sym cr ∙ cs)) nd
-  ]
-  | inr nc ↦ elim (cases_eq d r) [
-    | inr nd ↦ first c d nc nd
-    | inl dr ↦ elim (cases_eq c s) [
-      | inl cs ↦ subst (λ z. IsConnectedIn g (without_two w z d)) (sym cs) (subst (λ z. IsConnectedIn g (without_two w s z)) (sym dr) (connected_turned g w r s pair))
-      | inr ncs ↦ second c d ncs (λ ds. differ (sym dr ∙ ds))
-    ]
-  ]
-]

@@ -21,6 +21,14 @@ pub record IsHeld (g : Network) (w : ℕ → Bool) (root : ℕ) (held : ℕ → 
 abbrev pub IsWholeBeside : Network → (ℕ → Bool) → ℕ → Type 0
 IsWholeBeside g w root = (c d : ℕ) → c ≢ root → d ≢ root → IsConnectedIn g (without_two w c d)
 
+-- no single node but the root parts the set
+abbrev pub IsWholeButAt : Network → (ℕ → Bool) → ℕ → Type 0
+IsWholeButAt g w root = (c : ℕ) → c ≢ root → IsConnectedIn g (without_two w c c)
+
+-- no two nodes of which one is this node part the set
+abbrev pub IsWholeWith : Network → (ℕ → Bool) → ℕ → Type 0
+IsWholeWith g w c = (d : ℕ) → IsConnectedIn g (without_two w c d)
+
 -- what is known of the set
 pub record IsKnown (g : Network) (w : ℕ → Bool) (known : Known) : Type 0 where
   pub marks : length known.held.items ≡ g.nodes

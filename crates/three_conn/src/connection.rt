@@ -24,10 +24,10 @@ pub enum Conn {
 const FEWEST: u32 = 4;
 
 /// Tells whether a graph is three-connected: `Few` exactly where it has fewer than four nodes, `Yes` exactly where it is, and else `Cut`
-/// with at most two nodes without which it is not connected. A way of its own: nodes that no two others part from a node with the most
-/// neighbours are gathered one by one, each where three ways lead to those gathered; so again from a second node; and the two are tried
-/// together. At most two short searches for each node and each of the two, which stop at the third gathered node: on networks that are no
-/// narrow strips these look at each link a few times in all.
+/// with at most two nodes without which it is not connected. A way of its own: a node with the most neighbours is tried with each other, by
+/// gathering the nodes that no single node parts from a second one in the graph without it; then nodes that no two others part from it are
+/// gathered one by one, each where three ways lead to those gathered. At most two short searches for each node, which stop at the second
+/// or third gathered node: on networks that are no narrow strips these look at each link a few times in all.
 pub fn three_connected(alloc: Global, g: &Graph) -> Result<Conn, NoMemory>
     ensures { IfOk result (IsConn g.now) }
 {

@@ -7,6 +7,7 @@ mod known;
 mod marks;
 mod meeting;
 mod probing;
+mod single;
 
 pub use connection::{Conn, three_connected};
 pub use known::Parting;

@@ -5,11 +5,12 @@ ghost use Rattle.tomo_base.specs.Walks.{IsConnectedIn};
 ghost use Rattle.tomo_base.specs.Search.{mark_of};
 ghost use Rattle.tomo_base.specs.Parting.{without_two, IsThreeConnectedIn};
 ghost use Rattle.three_conn.specs.Parting.{IsParted, IsParting};
-ghost use Rattle.three_conn.specs.Held.{IsWholeBeside};
+ghost use Rattle.three_conn.specs.Held.{IsWholeBeside, IsWholeWith};
 
 use crate::growing::grow;
 use crate::known::{Parting, begin};
 use crate::marks::{all_but, first_marked, first_missed};
+use crate::single::part_at_one;
 use std::alloc::Global;
 use tomo_base::{Graph, NoMemory, Swept, sweep};
 
@@ -77,8 +78,42 @@ fn beside(alloc: Global, g: &Graph, nodes: &[bool], root: u32) -> Result<Option<
     grow(alloc, g, nodes, &mut known)
 }
 
-// Looks for two nodes that part a set of at least four nodes: two of its nodes are tried together, and each is taken for a root, beside
-// which two others might part the set.
+// Looks for a node that parts the set together with the first: the two are tried together, and then each node other than the second in the
+// set without the first.
+fn together(
+    alloc: Global,
+    g: &Graph,
+    nodes: &[bool],
+    first: u32,
+    second: u32,
+) -> Result<Option<Parting>, NoMemory>
+    requires marks { length nodes.now ≡ g.now.nodes }
+    requires first { mark_of nodes.now first ≡ true }
+    requires second { mark_of nodes.now second ≡ true }
+    requires differ { first ≢ second }
+    ensures whole { IfOk result (λ o. IfNone o (IsWholeWith g.now (mark_of nodes.now) first)) }
+    ensures parting { IfOk result (λ o. IfSome o (IsParting g.now (mark_of nodes.now))) }
+{
+    let _count = g.nodes();
+    if let Some(parting) = parting_at(alloc, g, nodes, first, first)? {
+        return Ok(Some(parting));
+    }
+    if let Some(parting) = parting_at(alloc, g, nodes, first, second)? {
+        return Ok(Some(parting));
+    }
+    let rest = all_but(alloc, nodes, first, first)?;
+    match part_at_one(alloc, g, &rest, second)? {
+        Some(found) => Ok(Some(Parting {
+            side: found.side,
+            first,
+            second: found.second,
+        })),
+        None => Ok(None),
+    }
+}
+
+// Looks for two nodes that part a set of at least four nodes: the first with another, and then two others beside it, for which nodes are
+// held that no two part from it.
 pub fn seek(
     alloc: Global,
     g: &Graph,
@@ -95,13 +130,10 @@ pub fn seek(
     ensures parting { IfOk result (λ o. IfSome o (IsParting g.now (mark_of nodes.now))) }
 {
     let _count = g.nodes();
-    if let Some(parting) = parting_at(alloc, g, nodes, first, second)? {
+    if let Some(parting) = together(alloc, g, nodes, first, second)? {
         return Ok(Some(parting));
     }
-    if let Some(parting) = beside(alloc, g, nodes, first)? {
-        return Ok(Some(parting));
-    }
-    match beside(alloc, g, nodes, second)? {
+    match beside(alloc, g, nodes, first)? {
         Some(parting) => Ok(Some(parting)),
         None => Ok(None),
     }
@@ -190,10 +222,11 @@ const NARROW: usize = 16;
 
 /// Looks for two nodes that part a set of at least four nodes of a graph; what links lead out of the set is not looked at. A long set is
 /// first tried in the middle of a search from its one end, and then the root, a node of the set, with a node farthest from it, so that
-/// rings and ladders are cut in half, and a split tree of them is as deep as the logarithm of their nodes. Then no two nodes part the set if
-/// none part it beside the root, and none beside that other node: from each of the two, nodes are gathered that no two others part from it,
-/// each by a search that stops at the third gathered node that it meets. A few searches linear in nodes and links, and at most two short
-/// ones for each node: on networks that are no narrow strips, these look at each link a few times in all.
+/// rings and ladders are cut in half, and a split tree of them is as deep as the logarithm of their nodes. Then the root is tried with each
+/// other node: without it, nodes are gathered that no single node parts from the other one, each with a way that a search finds. At last
+/// nodes are gathered that no two others part from the root, each by a search that stops at the third gathered node that it meets. A few
+/// searches linear in nodes and links, and at most one short one for each node: on networks that are no narrow strips, these look at each
+/// link a few times in all, and on a narrow strip of n nodes at some n²/4.
 pub fn probe(
     alloc: Global,
     g: &Graph,

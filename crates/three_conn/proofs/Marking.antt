@@ -1,15 +1,12 @@
 -- What setting a mark does to the set of marked nodes, to the held nodes, and to those that are not.
-use Rattle.std.proofs.Common.{◌≡◌, ℕ, ◌+◌, ◌<◌, ◌⊎◌, Bool, true, false, not, ◌&&◌, ◌||◌, ◌==◌, List, length, get_or, set, IsTrue, refl, sym, ap, subst, ◌∙◌, inl, inr, arith, get_or-set_same, get_or-set_other}
-use Rattle.std.proofs.lemmas.Bool.{cases_eq, cases_lt, both_ways, and_right, or_cases, or_left, or_right, eqb-true, eq-eqb, ne_eqb}
-use Rattle.std.proofs.lemmas.List.{get_or_past, get_or_default}
+use Rattle.std.proofs.Common.{◌≡◌, ℕ, ◌+◌, ◌<◌, ◌⊎◌, Bool, true, false, not, ◌&&◌, ◌==◌, List, length, get_or, set, IsTrue, sym, ap, subst, ◌∙◌, inl, inr, arith, get_or-set_same, get_or-set_other}
+use Rattle.std.proofs.lemmas.Bool.{cases_eq, and_right, or_cases, or_left, eqb-true}
+use Rattle.std.proofs.lemmas.List.{get_or_default}
 use Rattle.tomo_base.specs.Network.{Network, linked}
-use Rattle.tomo_base.specs.Sets.{count}
 use Rattle.tomo_base.specs.Search.{mark_of}
 use Rattle.tomo_base.specs.Table.{AreHops}
 use Rattle.tomo_base.specs.declared.graph.Hop.{Hop}
-use Rattle.tomo_base.proofs.Counts.{count-less}
 use Rattle.tomo_base.proofs.Rows.{hop_linked}
-use Rattle.tomo_base.specs.Parting.{with_one}
 use Rattle.gate_search.proofs.Marks.{mark_more}
 use Rattle.three_conn.specs.Held.{IsHeld, IsRest}
 

@@ -1,4 +1,5 @@
 pub mod Parting
 pub mod Held
+pub mod Growing
 pub mod WaysUp
 pub mod Answers

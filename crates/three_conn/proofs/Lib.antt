@@ -5,3 +5,4 @@ pub mod Steps
 pub mod Sides
 pub mod Marking
 pub mod Whole
+pub mod Sight

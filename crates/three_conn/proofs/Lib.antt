@@ -6,3 +6,4 @@ pub mod Sides
 pub mod Marking
 pub mod Whole
 pub mod Together
+pub mod Sight

@@ -1,14 +1,10 @@
--- The root of a set of nodes, nodes that no two others part from it, and how these grow.
-use Rattle.std.specs.Prelude.{ℕ, ◌≡◌, ◌≢◌, ◌<◌, Bool, true, not, ◌&&◌, length, IsTrue}
+-- The root of a set of nodes, and nodes that no two others part from it.
+use Rattle.std.specs.Prelude.{ℕ, ◌≡◌, ◌≢◌, Bool, not, ◌&&◌, length, IsTrue}
 use Rattle.tomo_base.specs.Network.{Network, linked}
 use Rattle.tomo_base.specs.Walks.{Reaches, IsConnectedIn}
 use Rattle.tomo_base.specs.Search.{mark_of}
-use Rattle.tomo_base.specs.declared.search.Swept.{Swept}
-use Rattle.tomo_base.specs.Parting.{with_one, without_two}
-use Rattle.three_conn.specs.Parting.{IsParting}
+use Rattle.tomo_base.specs.Parting.{without_two}
 use Rattle.three_conn.specs.declared.known.Known.{Known}
-use Rattle.three_conn.specs.declared.known.Growth.{Growth}
-use Rattle.three_conn.specs.declared.known.Growth.TheVariants.{More, Parted}
 
 -- the root, its neighbours in the set, and further nodes: no two nodes other than the root part a node that is held from it
 pub record IsHeld (g : Network) (w : ℕ → Bool) (root : ℕ) (held : ℕ → Bool) : Type 0 where
@@ -37,8 +33,3 @@ pub record IsKnown (g : Network) (w : ℕ → Bool) (known : Known) : Type 0 whe
 -- the nodes of the set that are not held
 abbrev pub IsRest : (ℕ → Bool) → (ℕ → Bool) → (ℕ → Bool) → Type 0
 IsRest w held free = (v : ℕ) → free v ≡ (w v && not (held v))
-
--- one free node more may be held, or the set is parted, and what the search has reached is a side: whatever the root is, where the free nodes are those that are not held
-abbrev pub IsGrowth : Network → (ℕ → Bool) → (ℕ → Bool) → Swept → Growth → Type 0
-IsGrowth g w free s (More u) = (u < g.nodes) × (free u ≡ true) × ((root : ℕ) (held : ℕ → Bool) → IsHeld g w root held → IsRest w held free → IsHeld g w root (with_one held u))
-IsGrowth g w free s (Parted c d) = (root : ℕ) (held : ℕ → Bool) → IsHeld g w root held → IsRest w held free → IsParting g w (record { side = s.order; first = c; second = d })

@@ -4,7 +4,8 @@ ghost use Rattle.tomo_base.specs.Sets.{Within};
 ghost use Rattle.tomo_base.specs.Search.{mark_of};
 ghost use Rattle.gate_search.specs.Stops.{IsRoom};
 ghost use Rattle.three_conn.specs.Parting.{IsParting};
-ghost use Rattle.three_conn.specs.Held.{IsKnown, IsGrowth};
+ghost use Rattle.three_conn.specs.Growing.{IsGrowth};
+ghost use Rattle.three_conn.specs.Held.{IsKnown};
 
 use crate::known::{Growth, Known, Parting};
 use crate::marks::rest;
@@ -14,8 +15,8 @@ use std::alloc::Global;
 use tomo_base::{Graph, NoMemory};
 
 // A step from a free node: a search from it, or from the first node with a gate to which it is connected, up to gates to three different
-// nodes. These give a node that may be held, where the ways from the three meet.
-fn step(
+// nodes. These give a node with ways out of the free nodes, where the ways from the three meet.
+pub fn step(
     g: &Graph,
     nodes: &[bool],
     free: &[bool],
@@ -24,6 +25,7 @@ fn step(
 ) -> Result<Growth, NoMemory>
     requires marks { length nodes.now ≡ g.now.nodes }
     requires free { length free.now ≡ g.now.nodes }
+    requires inside { Within (mark_of free.now) (mark_of nodes.now) }
     requires node { (x < g.now.nodes) × (mark_of free.now x ≡ true) }
     requires room { IsRoom g.now.nodes search.old.found }
     ensures growth { IfOk result (IsGrowth g.now (mark_of nodes.now) (mark_of free.now) search.new.found) }

@@ -22,12 +22,12 @@ pub struct Parting {
     pub second: u32,
 }
 
-// How the held nodes grow.
+// What one step of growing tells.
 #[derive(Drop)]
 pub enum Growth {
-    // One node more may be held.
+    // Whatever two nodes are taken away, this one reaches a node of the set that is not free.
     More(u32),
-    // These two part the set, and what the search has reached is a side.
+    // Links lead from what the search has reached to others of the set only over these two.
     Parted(u32, u32),
 }
 

@@ -3,7 +3,7 @@ use Rattle.tomo_base.specs.Search.{mark_of}
 use Rattle.tomo_base.specs.Parting.{with_one}
 use Rattle.gate_search.proofs.Marks.{mark_below, mark_more, still_gone, fewer_marks}
 use Rattle.three_conn.proofs.Marking.{held_same, rest_less}
-use Rattle.three_conn.proofs.Steps.{held_other}
+use Rattle.three_conn.proofs.Holding.{held_more, held_other, shut_parting}
 use Rattle.three_conn.proofs.growing.grow.Goals as goal
 
 pub loop-x-smaller-in-More : goal.loop-x-smaller-in-More
@@ -25,7 +25,7 @@ loop-x-preserved-in-More c =
     record {
       known = record {
         marks = length-set held u true ∙ known.marks;
-        held = held_same c.args.g.now (mark_of c.args.nodes.now) (with_one (mark_of held) u) _ c.loop-x.known.root (λ v. mark_more held u v in_held) (step.2 c.loop-x.known.root (mark_of held) known.held c.loop-x.invariant.rest);
+        held = held_same c.args.g.now (mark_of c.args.nodes.now) (with_one (mark_of held) u) _ c.loop-x.known.root (λ v. mark_more held u v in_held) (held_more c.args.g.now (mark_of c.args.nodes.now) (mark_of held) (mark_of free) c.loop-x.known.root u known.held c.loop-x.invariant.rest step.2);
       };
       root = c.loop-x.invariant.root;
       size = length-set free u false ∙ c.loop-x.invariant.size;
@@ -38,7 +38,8 @@ loop-x-preserved-in-More c =
 pub returns-in-Parted-clause-parting : goal.returns-in-Parted-clause-parting
 returns-in-Parted-clause-parting c =
     let step = rw (c.deref-then-index-2.ensures.value, c.in-Parted.is) at c.in_ok-u.ensures.growth in
-    step c.loop-x.known.root (mark_of c.loop-x.known.held.items) c.loop-x.invariant.known.held c.loop-x.invariant.rest
+    shut_parting c.args.g.now (mark_of c.args.nodes.now) (mark_of c.loop-x.known.held.items) (mark_of c.loop-x.free.items) c.loop-x.known.root c.step.new.search.found c.in-Parted.first c.in-Parted.second
+    c.nodes-in-loop-x.ensures.graph (λ v t. omega (arith, mark_below c.args.nodes.now v t, c.requires.marks)) c.loop-x.invariant.known.held c.loop-x.invariant.rest step
 
 pub returns-clause-whole : goal.returns-clause-whole
 returns-clause-whole c = λ v t.

@@ -4,7 +4,7 @@ ghost use Rattle.outside.specs.Causes.{Rose};
 ghost use Rattle.outside.specs.Devices.{IsAfterRead, ReadsAll, TakesAtMost};
 ghost use Rattle.outside.specs.Shelf.{Asks, Gives, IsHonest};
 
-use crate::{Got, Shelf, ShelfFault};
+use crate::{Got, ReadAnswer, Shelf, ShelfFault};
 use std::alloc::Global;
 use std::fs;
 use std::io::Read;
@@ -49,7 +49,7 @@ impl<'a, R: Files> FileShelf<'a, R> {
 
 // What a reader has left, up to `limit` bytes. Each turn takes at least one byte or ends, and the
 // last is the one that brings more than the limit. A read that was interrupted has failed.
-fn take_all<F: Read>(file: &mut F, limit: u64, out: &mut Vec<u8>) -> Result<Got, ShelfFault>
+fn take_all<F: Read>(file: &mut F, limit: u64, out: &mut Vec<u8>) -> ReadAnswer
     requires { out.old.items ≡ [] }
     ensures reads { ReadsAll (F.remaining file.old) limit result out.new.items }
     ensures stops { TakesAtMost (F.remaining file.old) (F.remaining file.new) (limit + PIECE) }
@@ -85,13 +85,7 @@ impl<'a, R: Files> Shelf for FileShelf<'a, R> {
 
     ghost faults = { λ s. s.faults };
 
-    fn read(
-        &mut self,
-        _alloc: Global,
-        name: &str,
-        limit: u64,
-        out: &mut Vec<u8>,
-    ) -> Result<Got, ShelfFault>
+    fn read(&mut self, _alloc: Global, name: &str, limit: u64, out: &mut Vec<u8>) -> ReadAnswer
         requires { out.old.items ≡ [] }
         ensures asks { Asks self.old.asked self.new.asked name.now result }
         ensures gives { Gives None name.now limit result out.new.items }

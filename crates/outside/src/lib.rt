@@ -12,6 +12,6 @@ mod std_sink;
 pub use file_shelf::FileShelf;
 pub use memory_shelf::MemShelf;
 pub use memory_sink::MemSink;
-pub use shelf::{Got, Shelf, ShelfFault};
+pub use shelf::{Got, ReadAnswer, Shelf, ShelfFault};
 pub use sink::{Sink, SinkFault};
 pub use std_sink::StdSink;

@@ -8,7 +8,7 @@ ghost use Rattle.outside.specs.Memory.{none_set, AnswersRead, after_read};
 ghost use Rattle.outside.specs.Shelf.{Gives, Asks, IsHonest};
 
 use crate::scripted::is_set_to_fail;
-use crate::{Got, Shelf, ShelfFault};
+use crate::{Got, ReadAnswer, Shelf, ShelfFault};
 use std::alloc::Global;
 use std::collections::VecDeque;
 use std::marker::Model;
@@ -81,9 +81,7 @@ impl MemShelf {
 
     /// The read with this number is to fail. Reads are counted from 1, from `new` on.
     pub fn fail_at(&mut self, call: u32) -> Result<(), NoMemory>
-        ensures ok { OnOk result (self.new ≡ record self.old {
-          failing = self.old.failing ++ call ∷ [];
-        }) }
+        ensures ok { OnOk result (self.new ≡ record self.old { failing = self.old.failing ++ call ∷ [] }) }
         ensures err { OnErr result (self.new ≡ self.old) }
     {
         self.failing.push(call)?;
@@ -91,7 +89,7 @@ impl MemShelf {
     }
 
     // What the next read answers, as the shelf stands.
-    fn answer(&self, name: &str, limit: u64, out: &mut Vec<u8>) -> Result<Got, ShelfFault>
+    fn answer(&self, name: &str, limit: u64, out: &mut Vec<u8>) -> ReadAnswer
         requires { out.old.items ≡ [] }
         ensures { AnswersRead self.now name.now limit result out.new.items }
     {
@@ -131,13 +129,7 @@ impl Shelf for MemShelf {
 
     ghost faults = { λ s. s.faults };
 
-    fn read(
-        &mut self,
-        _alloc: Global,
-        name: &str,
-        limit: u64,
-        out: &mut Vec<u8>,
-    ) -> Result<Got, ShelfFault>
+    fn read(&mut self, _alloc: Global, name: &str, limit: u64, out: &mut Vec<u8>) -> ReadAnswer
         requires { out.old.items ≡ [] }
         ensures told { Some self.new.files ≡ Some self.old.files }
         ensures sure { none_set self.new.failing ≡ none_set self.old.failing }

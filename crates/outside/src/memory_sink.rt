@@ -68,9 +68,7 @@ impl MemSink {
 
     /// The write with this number is to fail. Writes are counted from 1, from `new` on.
     pub fn fail_at(&mut self, call: u32) -> Result<(), NoMemory>
-        ensures ok { OnOk result (self.new ≡ record self.old {
-          failing = self.old.failing ++ call ∷ [];
-        }) }
+        ensures ok { OnOk result (self.new ≡ record self.old { failing = self.old.failing ++ call ∷ [] }) }
         ensures err { OnErr result (self.new ≡ self.old) }
     {
         self.failing.push(call)?;

@@ -19,6 +19,9 @@ pub enum ShelfFault {
     Failed,
 }
 
+/// What a read answers.
+pub type ReadAnswer = Result<Got, ShelfFault>;
+
 /// A shelf of named files, each read whole.
 pub trait Shelf {
     /// The bytes of each name, where the shelf tells them.
@@ -37,13 +40,7 @@ pub trait Shelf {
     /// otherwise `out` stays empty. The name is kept among those asked for, which want of memory
     /// may prevent. It fails only where the count of faults rises, as at a name that it doesn't
     /// know.
-    fn read(
-        &mut self,
-        alloc: Global,
-        name: &str,
-        limit: u64,
-        out: &mut Vec<u8>,
-    ) -> Result<Got, ShelfFault>
+    fn read(&mut self, alloc: Global, name: &str, limit: u64, out: &mut Vec<u8>) -> ReadAnswer
         requires { out.old.items ≡ [] }
         ensures told { told self.new ≡ told self.old }
         ensures sure { sure self.new ≡ sure self.old }

@@ -1,5 +1,7 @@
 // Why rows are no plan.
-use std::alloc::{AllocError, AllocFailed};
+ghost use Rattle.std.specs.Prelude.{◌≡◌};
+ghost use Rattle.plan_form.specs.declared.faults.PlanFault.TheVariants.{NoMemory};
+
 use thiserror::Error;
 use tomo_base::NoMemory as WantOfMemory;
 
@@ -28,35 +30,11 @@ pub enum PlanFault {
     After(u32),
 }
 
-impl From<WantOfMemory> for PlanFault {
-    ghost use Rattle.std.specs.Prelude.{◌≡◌};
-    ghost use Rattle.plan_form.specs.declared.faults.PlanFault.TheVariants.{NoMemory};
-
+// Whatever tells want of memory becomes this fault.
+impl<E: Into<WantOfMemory> + Drop> From<E> for PlanFault {
     ghost from_gives = { λ _ e. e ≡ NoMemory };
 
-    fn from(_e: WantOfMemory) -> PlanFault {
-        PlanFault::NoMemory
-    }
-}
-
-impl From<AllocError> for PlanFault {
-    ghost use Rattle.std.specs.Prelude.{◌≡◌};
-    ghost use Rattle.plan_form.specs.declared.faults.PlanFault.TheVariants.{NoMemory};
-
-    ghost from_gives = { λ _ e. e ≡ NoMemory };
-
-    fn from(_e: AllocError) -> PlanFault {
-        PlanFault::NoMemory
-    }
-}
-
-impl<T: Drop> From<AllocFailed<T>> for PlanFault {
-    ghost use Rattle.std.specs.Prelude.{◌≡◌};
-    ghost use Rattle.plan_form.specs.declared.faults.PlanFault.TheVariants.{NoMemory};
-
-    ghost from_gives = { λ _ e. e ≡ NoMemory };
-
-    fn from(_e: AllocFailed<T>) -> PlanFault {
+    fn from(_e: E) -> PlanFault {
         PlanFault::NoMemory
     }
 }

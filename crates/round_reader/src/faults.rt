@@ -1,6 +1,9 @@
 // Why rows are no rounds.
-use std::alloc::{AllocError, AllocFailed};
+ghost use Rattle.std.specs.Prelude.{◌≡◌};
+ghost use Rattle.round_reader.specs.declared.faults.RoundFault.TheVariants.{NoMemory};
+
 use thiserror::Error;
+use tomo_base::NoMemory as WantOfMemory;
 
 /// Why rows are no rounds. Rows and fields are numbered from 1.
 #[derive(Clone, Copy, Debug, PartialEq, Eq, Error)]
@@ -17,24 +20,11 @@ pub enum RoundFault {
     Number(u32, u32),
 }
 
-impl From<AllocError> for RoundFault {
-    ghost use Rattle.std.specs.Prelude.{◌≡◌};
-    ghost use Rattle.round_reader.specs.declared.faults.RoundFault.TheVariants.{NoMemory};
-
+// Whatever tells want of memory becomes this fault.
+impl<E: Into<WantOfMemory> + Drop> From<E> for RoundFault {
     ghost from_gives = { λ _ e. e ≡ NoMemory };
 
-    fn from(_e: AllocError) -> RoundFault {
-        RoundFault::NoMemory
-    }
-}
-
-impl<T: Drop> From<AllocFailed<T>> for RoundFault {
-    ghost use Rattle.std.specs.Prelude.{◌≡◌};
-    ghost use Rattle.round_reader.specs.declared.faults.RoundFault.TheVariants.{NoMemory};
-
-    ghost from_gives = { λ _ e. e ≡ NoMemory };
-
-    fn from(_e: AllocFailed<T>) -> RoundFault {
+    fn from(_e: E) -> RoundFault {
         RoundFault::NoMemory
     }
 }

@@ -1,5 +1,9 @@
 // Why rows are no topology, or no monitors of one.
-use std::alloc::{AllocError, AllocFailed};
+ghost use Rattle.std.specs.Prelude.{◌≡◌};
+ghost use Rattle.topology.specs.declared.faults.TopoFault.TheVariants as topologies;
+ghost use Rattle.topology.specs.declared.faults.MonFault.TheVariants as monitors;
+ghost use Rattle.topology.specs.declared.faults.ChoiceFault.TheVariants as choices;
+
 use thiserror::Error;
 use tomo_base::NoMemory as WantOfMemory;
 
@@ -32,6 +36,15 @@ pub enum TopoFault {
     Apart(u32),
 }
 
+// Whatever tells want of memory becomes this fault.
+impl<E: Into<WantOfMemory> + Drop> From<E> for TopoFault {
+    ghost from_gives = { λ _ e. e ≡ topologies.NoMemory };
+
+    fn from(_e: E) -> TopoFault {
+        TopoFault::NoMemory
+    }
+}
+
 /// Why rows are no monitors of a topology. Rows are numbered from 1.
 #[derive(Clone, Copy, Debug, PartialEq, Eq, Error)]
 pub enum MonFault {
@@ -41,6 +54,15 @@ pub enum MonFault {
     /// The name in the row is the name of no node.
     #[error("row {0}: no node has this name")]
     Unknown(u32),
+}
+
+// Whatever tells want of memory becomes this fault.
+impl<E: Into<WantOfMemory> + Drop> From<E> for MonFault {
+    ghost from_gives = { λ _ e. e ≡ monitors.NoMemory };
+
+    fn from(_e: E) -> MonFault {
+        MonFault::NoMemory
+    }
 }
 
 /// Why rows choose no nodes of a topology. Rows are numbered from 1.
@@ -63,46 +85,11 @@ pub enum ChoiceFault {
     Clash(u32),
 }
 
-impl From<WantOfMemory> for TopoFault {
-    ghost use Rattle.std.specs.Prelude.{◌≡◌};
-    ghost use Rattle.topology.specs.declared.faults.TopoFault.TheVariants.{NoMemory};
+// Whatever tells want of memory becomes this fault.
+impl<E: Into<WantOfMemory> + Drop> From<E> for ChoiceFault {
+    ghost from_gives = { λ _ e. e ≡ choices.NoMemory };
 
-    ghost from_gives = { λ _ e. e ≡ NoMemory };
-
-    fn from(_e: WantOfMemory) -> TopoFault {
-        TopoFault::NoMemory
-    }
-}
-
-impl From<AllocError> for TopoFault {
-    ghost use Rattle.std.specs.Prelude.{◌≡◌};
-    ghost use Rattle.topology.specs.declared.faults.TopoFault.TheVariants.{NoMemory};
-
-    ghost from_gives = { λ _ e. e ≡ NoMemory };
-
-    fn from(_e: AllocError) -> TopoFault {
-        TopoFault::NoMemory
-    }
-}
-
-impl From<WantOfMemory> for MonFault {
-    ghost use Rattle.std.specs.Prelude.{◌≡◌};
-    ghost use Rattle.topology.specs.declared.faults.MonFault.TheVariants.{NoMemory};
-
-    ghost from_gives = { λ _ e. e ≡ NoMemory };
-
-    fn from(_e: WantOfMemory) -> MonFault {
-        MonFault::NoMemory
-    }
-}
-
-impl From<WantOfMemory> for ChoiceFault {
-    ghost use Rattle.std.specs.Prelude.{◌≡◌};
-    ghost use Rattle.topology.specs.declared.faults.ChoiceFault.TheVariants.{NoMemory};
-
-    ghost from_gives = { λ _ e. e ≡ NoMemory };
-
-    fn from(_e: WantOfMemory) -> ChoiceFault {
+    fn from(_e: E) -> ChoiceFault {
         ChoiceFault::NoMemory
     }
 }

@@ -51,12 +51,24 @@ three_connected_marks n p marks is same three = record {
       (λ v l m. let q = minus-out (has p.nodes) c v m in minus-in (mark_of marks) c v (same v ∙ q.0) q.1) (three.whole c few);
 }
 
+-- what parts it is two nodes of it
+pub pair_cut : (n : ℕ) (p : Piece) (cut : Parting) → IsStage n p → IsParted (net n p) (has p.nodes) (has cut.side.items) cut.first cut.second → IsPairCut n p cut
+pair_cut n p cut stage parted =
+    let P : ℕ → Bool = has p.nodes in
+    let K : ℕ → Bool = has cut.side.items in
+    let c = cut.first in
+    let d = cut.second in
+    let far = without_two-ne P c d parted.rest.0 parted.rest.2 in
+    let pair = cut-is-pair (net n p) P K c d (firm_of n p stage.is stage.nonseparable) (λ v m. without_two-in P c d v (parted.inside v m)) (λ u v m l iv. parted.shut u v m l iv)
+    (false_from_ne_true (K c) (λ m. (without_two-ne P c d c (parted.inside c m)).0 refl)) (false_from_ne_true (K d) (λ m. (without_two-ne P c d d (parted.inside d m)).1 refl))
+    parted.some.0 parted.some.2 parted.rest.0 (without_two-in P c d parted.rest.0 parted.rest.2) parted.rest.3 far.0 far.1 in
+    record { differ = pair.0; first = pair.1; second = pair.2; parted = parted }
+
 -- two nodes that part it
 pub pair_cut_of : (n : ℕ) (p : Piece) (marks : List Bool) (cut : Parting) → IsStage n p → ((v : ℕ) → mark_of marks v ≡ has p.nodes v)
     → IsParting (net n p) (mark_of marks) cut → IsPairCut n p cut
 pair_cut_of n p marks cut stage same parting =
     let P : ℕ → Bool = has p.nodes in
-    let K : ℕ → Bool = has cut.side.items in
     let c = cut.first in
     let d = cut.second in
     let old = parting.parted in
@@ -64,17 +76,12 @@ pair_cut_of n p marks cut stage same parting =
     without_two-from P c d v (sym (same v) ∙ without_two-in (mark_of marks) c d v m) ne.0 ne.1 in
     let back : (v : ℕ) → IsTrue (without_two P c d v) → IsTrue (without_two (mark_of marks) c d v) = λ v m. let ne = without_two-ne P c d v m in
     without_two-from (mark_of marks) c d v (same v ∙ without_two-in P c d v m) ne.0 ne.1 in
-    let parted : IsParted (net n p) P K c d = record {
+    pair_cut n p cut stage (record {
       inside = λ v m. to v (old.inside v m);
       shut = λ u v m l iv. old.shut u v m l (back v iv);
       some = old.some;
       rest = (old.rest.0, old.rest.1, to old.rest.0 old.rest.2, old.rest.3);
-    } in
-    let far = without_two-ne P c d old.rest.0 parted.rest.2 in
-    let pair = cut-is-pair (net n p) P K c d (firm_of n p stage.is stage.nonseparable) (λ v m. without_two-in P c d v (parted.inside v m)) (λ u v m l iv. parted.shut u v m l iv)
-    (false_from_ne_true (K c) (λ m. (without_two-ne P c d c (parted.inside c m)).0 refl)) (false_from_ne_true (K d) (λ m. (without_two-ne P c d d (parted.inside d m)).1 refl))
-    old.some.0 old.some.2 old.rest.0 (without_two-in P c d old.rest.0 parted.rest.2) old.rest.3 far.0 far.1 in
-    record { differ = pair.0; first = pair.1; second = pair.2; parted = parted }
+    })
 
 -- ---- the two nodes in order
 

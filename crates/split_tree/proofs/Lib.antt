@@ -13,3 +13,4 @@ pub mod Marking
 pub mod Halved
 pub mod Topmost
 pub mod Sounding
+pub mod Shut

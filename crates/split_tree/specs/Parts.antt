@@ -1,5 +1,5 @@
--- A part of a piece by marks on its nodes.
-use Rattle.std.specs.Prelude.{ℕ, ◌≡◌, ◌+◌, ◌≤◌, ◌&&◌, ◌||◌, Bool, List, length}
+-- A part of a piece by marks on its nodes, and links that do not lead out of marked nodes.
+use Rattle.std.specs.Prelude.{ℕ, ◌≡◌, ◌+◌, ◌≤◌, not, ◌&&◌, ◌||◌, ◌==◌, Bool, List, length}
 use Rattle.std.specs.List.{filter}
 use Rattle.tomo_base.specs.declared.graph.Link.{Link}
 use Rattle.tomo_base.specs.Network.{joins, any_joins, AreLinks}
@@ -16,3 +16,15 @@ pub record IsMarkedPart (n : ℕ) (whole : Piece) (marks : List Bool) (pair : Li
   pub graph : AreLinks n part.links
   pub links_are : (u v : ℕ) → any_joins part.links u v ≡ (any_joins (filter (is_inside marks) whole.links) u v || joins pair u v)
   pub few : length part.links ≤ length (filter (is_inside marks) whole.links) + 1
+
+-- the node has no mark
+abbrev pub is_unmarked : List Bool → ℕ → Bool
+is_unmarked marks v = not (mark_of marks v)
+
+-- a step from u to v does not lead out of the set, but to c or d
+abbrev pub stays_in : (ℕ → Bool) → ℕ → ℕ → ℕ → ℕ → Bool
+stays_in q c d u v = not (q u) || (q v || ((v == c) || (v == d)))
+
+-- nor does a step over the link, in either direction
+abbrev pub link_stays : (ℕ → Bool) → ℕ → ℕ → Link → Bool
+link_stays q c d l = stays_in q c d l.a l.b && stays_in q c d l.b l.a

@@ -4,9 +4,11 @@
 mod cutting;
 mod marked;
 mod marks;
+mod parts;
 mod piece;
 mod rigid_pieces;
 mod splitting;
+mod thin;
 mod tree;
 
 pub use piece::Piece;

@@ -13,10 +13,11 @@ use crate::piece::Piece;
 use crate::tree::{SplitTree, Tree, joined};
 use sqlite_items::Items;
 use std::alloc::Global;
+use three_conn::Parting;
 use tomo_base::{Graph, NoMemory, NodeSet, marks_of};
 
-// The tree of a piece that no single node cuts.
-fn build(alloc: Global, n: u32, piece: Piece) -> Result<Tree, NoMemory>
+// The tree of a piece that no single node cuts. The ways are guesses of where to cut it, and the right part has those that are left.
+fn build(alloc: Global, n: u32, piece: Piece, ways: &mut Vec<Parting>) -> Result<Tree, NoMemory>
     requires stage { IsStage n piece }
     requires few { n ≤ graph_node_limit }
     ensures facts { IfOk result (Facts n) }
@@ -26,11 +27,11 @@ fn build(alloc: Global, n: u32, piece: Piece) -> Result<Tree, NoMemory>
     if piece.nodes.len() <= 3 {
         return Ok(Tree::Small(piece));
     }
-    match cut(alloc, n, &piece)? {
+    match cut(alloc, n, &piece, ways)? {
         None => Ok(Tree::Rigid(piece)),
         Some(halves) => {
-            let left = build(alloc, n, halves.left)?;
-            let right = build(alloc, n, halves.right)?;
+            let left = build(alloc, n, halves.left, &mut Vec::new(alloc))?;
+            let right = build(alloc, n, halves.right, ways)?;
             joined(alloc, piece, halves.pair, left, right)
         }
     }
@@ -65,7 +66,7 @@ pub fn split(alloc: Global, g: &Graph, block: &NodeSet) -> Result<SplitTree, NoM
     ensures nodes { IfOk result (λ t. t.node_count ≡ g.now.nodes) }
 {
     let piece = whole(alloc, g, block)?;
-    let root = build(alloc, g.nodes(), piece)?;
+    let root = build(alloc, g.nodes(), piece, &mut Vec::new(alloc))?;
     Ok(SplitTree {
         root,
         node_count: g.nodes(),

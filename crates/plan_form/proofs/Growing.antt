@@ -40,21 +40,14 @@ told_other : (k j : Kind) (p : PlanParts) (xs : List (Item k)) → (place k == p
 told_other kinds.Plan j p xs other = refl
 told_other kinds.End j p xs other = refl
 told_other kinds.Node kinds.Node p xs other = absurd (false≢true (sym other))
-told_other kinds.Node _ p xs other = refl
 told_other kinds.Link kinds.Link p xs other = absurd (false≢true (sym other))
-told_other kinds.Link _ p xs other = refl
 told_other kinds.Must kinds.Must p xs other = absurd (false≢true (sym other))
-told_other kinds.Must _ p xs other = refl
 told_other kinds.Not kinds.Not p xs other = absurd (false≢true (sym other))
-told_other kinds.Not _ p xs other = refl
 told_other kinds.Monitor kinds.Monitor p xs other = absurd (false≢true (sym other))
-told_other kinds.Monitor _ p xs other = refl
 told_other kinds.Pocket kinds.Pocket p xs other = absurd (false≢true (sym other))
-told_other kinds.Pocket _ p xs other = refl
 told_other kinds.Path kinds.Path p xs other = absurd (false≢true (sym other))
-told_other kinds.Path _ p xs other = refl
 told_other kinds.Recipe kinds.Recipe p xs other = absurd (false≢true (sym other))
-told_other kinds.Recipe _ p xs other = refl
+told_other _ _ p xs other = refl
 
 -- how many items of a numbered kind a plan that can be spelled has at most
 abbrev pub room_for : Kind → ℕ

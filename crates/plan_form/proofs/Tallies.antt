@@ -6,7 +6,6 @@ use Rattle.std.proofs.lemmas.Int.{ints}
 use Rattle.std.proofs.lemmas.List.{map_more, take_more, map-append, length-map, get_or-map, get_or_default, append-nil, get_or_append_left, get_or_push}
 use Rattle.std.proofs.lemmas.List.Elements.{All-head, All-tail, All-cons, filter-append}
 use Rattle.std.proofs.lemmas.List.Kept.{AllPairs-filter, AllPairs-cons}
-use Rattle.std.specs.List.Sorted.{IsNonDecreasingBy}
 use Rattle.tomo_base.proofs.Lists.{AllPairs-head, AllPairs-tail, AllPairs-insert}
 use Rattle.simple_path.specs.declared.recipe.Term.{Term}
 use Rattle.plan_form.specs.declared.sums.Tally.{Tally}
@@ -71,13 +70,6 @@ sum_at-insert (x ∷ xs) (suc p) y k = omega (arith, ints, sum_at-insert xs p y 
 -- the paths of tallies ascend
 abbrev pub Ascend : List Tally → Type 0
 Ascend xs = AllPairs (λ s t. s.path < t.path) xs
-
--- so they never fall
-pub never_falls : (xs : List Tally) → Ascend xs → IsNonDecreasingBy (λ s. s.path) xs
-never_falls xs up i j d le l = elim (cases_eq i j) [
-  | inl same ↦ subst (λ k. (get_or xs i d).path ≤ (get_or xs k d).path) same (omega arith)
-  | inr ne ↦ omega (arith, up i j d (omega (arith, le, ne)) l)
-]
 
 -- those of the terms do too
 pub terms_ascend : (xs : List Tally) → Ascend xs → AllPairs (λ t u. t.path < u.path) (map term_of xs)

@@ -13,29 +13,6 @@ use simple_path::{PathPool, Recipes};
 use std::alloc::Global;
 use tomo_base::{Graph, NoMemory, NodeSet};
 
-// Paths and recipes of all links; after want of memory the pool has some paths.
-fn lay(
-    alloc: Global,
-    g: &Graph,
-    m: &NodeSet,
-    t: &IndepTrees,
-    pool: &mut PathPool,
-) -> Result<Recipes, NoMemory>
-    requires graph { t.now.graph ≡ g.now }
-    requires monitors { t.now.monitors ≡ m.now }
-    requires trees { AreTrees t.now }
-    requires empty { pool.old ≡ [] }
-    ensures { IfOk result (λ r. AreTreeMeasures g.now (has m.now) pool.new r) }
-{
-    let nodes = g.nodes();
-    let _links = g.links();
-    let roots = roots_of(alloc, g, m, t)?;
-    lay_paths(alloc, m, t, nodes, &roots, pool)?;
-    let names = names_of(alloc, m, t, nodes, &roots)?;
-    let recipes = recipes_of(alloc, m, t, &names, &roots)?;
-    Ok(recipes)
-}
-
 /// One monitor path for each link, in the order of the links, and a recipe for each link over at most seven of them, from independent
 /// trees for the graph and the monitors. No path is there twice, in either direction, and the recipes of the links along a path add up
 /// to twice the path. After the construction of spanning trees and paths of Ma, He, Leung, Swami and Towsley (2013).
@@ -58,8 +35,13 @@ pub fn stpc(
     ensures ok { IfOk result (λ r. AreTreeMeasures g.now (has m.now) pool.new r) }
     ensures err { OnErr result (pool.new ≡ []) }
 {
-    match lay(alloc, g, m, t, pool) {
-        Ok(recipes) => Ok(recipes),
+    let nodes = g.nodes();
+    let _links = g.links();
+    let roots = roots_of(alloc, g, m, t)?;
+    let names = names_of(alloc, m, t, nodes, &roots)?;
+    let recipes = recipes_of(alloc, m, t, &names, &roots)?;
+    match lay_paths(alloc, m, t, nodes, &roots, pool) {
+        Ok(()) => Ok(recipes),
         Err(refused) => {
             pool.cut_back(0);
             Err(refused)

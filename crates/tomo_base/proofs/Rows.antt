@@ -7,12 +7,11 @@ use Rattle.std.proofs.lemmas.List.Elements.{All-contains, All-append, All-take, 
 use Rattle.std.proofs.lemmas.List.{get_or_default}
 use Rattle.std.proofs.lemmas.List.Edits.{length-insert, get_or-insert_at}
 use Rattle.std.proofs.lemmas.Grind.{in_insert}
-use Rattle.std.specs.List.Sorted.{IsNonDecreasingBy}
 use Rattle.tomo_base.proofs.Links.{joins_gives, joins_comm, any_joins_comm, linked_below}
 use Rattle.tomo_base.specs.declared.graph.Link.{Link}
 use Rattle.tomo_base.specs.declared.graph.Hop.{Hop}
 use Rattle.tomo_base.specs.Network.{joins, any_joins, AreLinks, Network, linked, IsGraph}
-use Rattle.tomo_base.specs.Table.{JoinsAt, Ascend, AreHops}
+use Rattle.tomo_base.specs.Table.{JoinsAt, AreHops}
 use Rattle.tomo_base.proofs.Lists.{AllPairs-insert, slice_get-append, slice_get_last, slice_get_push_cases}
 use Rattle.std.specs.Option.{is_some}
 
@@ -46,13 +45,6 @@ AreHops_none links v w hops are none = elim (cases_Bool (any_joins links v w)) [
       let r = any_joins_gives links v w e in
       absurd (All-contains (λ (h : Hop). h.node ≢ w) hops (record { node = w; link = r.0 }) none (are.complete r.0 w r.1) refl)
   | inr e ↦ e
-]
-
--- ascending neighbours never fall
-pub never_falls : (hops : List Hop) → Ascend hops → IsNonDecreasingBy (λ h. h.node) hops
-never_falls hops up i j d le l = elim (cases_eq i j) [
-  | inl same ↦ subst (λ k. (get_or hops i d).node ≤ (get_or hops k d).node) same (omega arith)
-  | inr ne ↦ omega (arith, up i j d (omega (arith, le, ne)) l)
 ]
 
 -- a node that does not stand at its place stands nowhere

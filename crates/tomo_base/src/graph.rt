@@ -5,7 +5,8 @@ ghost use Rattle.tomo_base.specs.Network.{Network, linked, IsGraph};
 ghost use Rattle.tomo_base.specs.Table.{in_order, JoinsAt, AreHops, IsTable, IsFirstFault};
 
 use crate::hop_rows::{enter, link_to, turned};
-use std::alloc::{AllocError, AllocFailed, Global};
+use crate::memory::NoMemory as WantOfMemory;
+use std::alloc::Global;
 use std::marker::Model;
 
 /// A link of a graph, by its two ends.
@@ -31,22 +32,13 @@ pub enum GraphFault {
     Repeat(u32),
 }
 
-impl From<AllocError> for GraphFault {
+// Whatever tells want of memory becomes this fault.
+impl<E: Into<WantOfMemory> + Drop> From<E> for GraphFault {
     ghost use Rattle.tomo_base.specs.declared.graph.GraphFault.TheVariants.{NoMemory};
 
     ghost from_gives = { λ _ e. e ≡ NoMemory };
 
-    fn from(_e: AllocError) -> GraphFault {
-        GraphFault::NoMemory
-    }
-}
-
-impl<T: Drop> From<AllocFailed<T>> for GraphFault {
-    ghost use Rattle.tomo_base.specs.declared.graph.GraphFault.TheVariants.{NoMemory};
-
-    ghost from_gives = { λ _ e. e ≡ NoMemory };
-
-    fn from(_e: AllocFailed<T>) -> GraphFault {
+    fn from(_e: E) -> GraphFault {
         GraphFault::NoMemory
     }
 }

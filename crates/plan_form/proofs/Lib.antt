@@ -33,3 +33,4 @@ pub mod Sizes
 pub mod Within
 pub mod Tied
 pub mod Retied
+pub mod Digits

@@ -1,4 +1,4 @@
-use Rattle.std.proofs.Common.{◌≡◌, ◌<◌, ◌+◌, ◌^◌, ◌∷◌, [], length, arith, ap, Some, refl, length-append}
+use Rattle.std.proofs.Common.{◌<◌, ◌+◌, ◌^◌, ◌∷◌, [], length, arith, ap, Some, refl, length-append}
 use Rattle.simple_path.specs.Pools.{nodes_in}
 use Rattle.topology.specs.Names.{row_at}
 use Rattle.plan_form.specs.declared.kinds.Kind.TheVariants as kinds

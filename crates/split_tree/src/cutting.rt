@@ -96,6 +96,7 @@ fn parting_of(
             return Ok(Some(way));
         }
     }
+    ways.clear();
     match probe(alloc, &g, &marks, middle)? {
         Some(parting) => Ok(Some(parting)),
         None => Ok(None),

@@ -7,7 +7,7 @@ ghost use Rattle.three_conn.specs.Parting.{IsParting};
 ghost use Rattle.three_conn.specs.Growing.{IsGrowth};
 ghost use Rattle.three_conn.specs.Held.{IsKnown};
 
-use crate::known::{Growth, Known, Parting};
+use crate::known::{Growth, Known, Parting, Sought};
 use crate::marks::rest;
 use crate::meeting::meet;
 use gate_search::{GateSearch, add_free, take_free};
@@ -48,12 +48,7 @@ pub fn step(
 
 // Lets the held nodes grow until all nodes of the set are held, or two nodes part the set. Steps go from neighbours of nodes that were held
 // lately, which have gates; where there are none, from any free node.
-pub fn grow(
-    alloc: Global,
-    g: &Graph,
-    nodes: &[bool],
-    known: &mut Known,
-) -> Result<Option<Parting>, NoMemory>
+pub fn grow(alloc: Global, g: &Graph, nodes: &[bool], known: &mut Known) -> Sought
     requires marks { length nodes.now ≡ g.now.nodes }
     requires known { IsKnown g.now (mark_of nodes.now) known.old }
     ensures known { IsKnown g.now (mark_of nodes.now) known.new }

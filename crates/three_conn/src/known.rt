@@ -22,6 +22,9 @@ pub struct Parting {
     pub second: u32,
 }
 
+/// What looking for two nodes that part a set comes to: the two and a side, or none. The error is want of memory.
+pub type Sought = Result<Option<Parting>, NoMemory>;
+
 // What one step of growing tells.
 #[derive(Drop)]
 pub enum Growth {

@@ -11,6 +11,6 @@ mod seeing;
 mod single;
 
 pub use connection::{Conn, three_connected};
-pub use known::Parting;
+pub use known::{Parting, Sought};
 pub use probing::probe;
 pub use seeing::seen;

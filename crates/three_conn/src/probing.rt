@@ -8,7 +8,7 @@ ghost use Rattle.three_conn.specs.Parting.{IsParted, IsParting};
 ghost use Rattle.three_conn.specs.Held.{IsWholeBeside, IsWholeWith};
 
 use crate::growing::grow;
-use crate::known::{Parting, begin};
+use crate::known::{Parting, Sought, begin};
 use crate::marks::{all_but, first_marked, first_missed};
 use crate::single::part_at_one;
 use std::alloc::Global;
@@ -42,13 +42,7 @@ fn side_without(
 }
 
 // The parting of the set by two nodes, where these part it.
-fn parting_at(
-    alloc: Global,
-    g: &Graph,
-    nodes: &[bool],
-    first: u32,
-    second: u32,
-) -> Result<Option<Parting>, NoMemory>
+fn parting_at(alloc: Global, g: &Graph, nodes: &[bool], first: u32, second: u32) -> Sought
     requires marks { length nodes.now ≡ g.now.nodes }
     requires first { first < g.now.nodes }
     requires second { second < g.now.nodes }
@@ -68,7 +62,7 @@ fn parting_at(
 }
 
 // Looks for two nodes other than the root that part the set: lets the nodes that are held from the root grow.
-fn beside(alloc: Global, g: &Graph, nodes: &[bool], root: u32) -> Result<Option<Parting>, NoMemory>
+fn beside(alloc: Global, g: &Graph, nodes: &[bool], root: u32) -> Sought
     requires marks { length nodes.now ≡ g.now.nodes }
     requires root { mark_of nodes.now root ≡ true }
     ensures whole { IfOk result (λ o. IfNone o (IsWholeBeside g.now (mark_of nodes.now) root)) }
@@ -80,13 +74,7 @@ fn beside(alloc: Global, g: &Graph, nodes: &[bool], root: u32) -> Result<Option<
 
 // Looks for a node that parts the set together with the first: the two are tried together, and then each node other than the second in the
 // set without the first.
-fn together(
-    alloc: Global,
-    g: &Graph,
-    nodes: &[bool],
-    first: u32,
-    second: u32,
-) -> Result<Option<Parting>, NoMemory>
+fn together(alloc: Global, g: &Graph, nodes: &[bool], first: u32, second: u32) -> Sought
     requires marks { length nodes.now ≡ g.now.nodes }
     requires first { mark_of nodes.now first ≡ true }
     requires second { mark_of nodes.now second ≡ true }
@@ -114,13 +102,7 @@ fn together(
 
 // Looks for two nodes that part a set of at least four nodes: the first with another, and then two others beside it, for which nodes are
 // held that no two part from it.
-pub fn seek(
-    alloc: Global,
-    g: &Graph,
-    nodes: &[bool],
-    first: u32,
-    second: u32,
-) -> Result<Option<Parting>, NoMemory>
+pub fn seek(alloc: Global, g: &Graph, nodes: &[bool], first: u32, second: u32) -> Sought
     requires marks { length nodes.now ≡ g.now.nodes }
     requires four { 4 ≤ size g.now (mark_of nodes.now) }
     requires first { mark_of nodes.now first ≡ true }
@@ -194,12 +176,7 @@ fn farthest(alloc: Global, g: &Graph, nodes: &[bool], root: u32) -> Result<Far, 
 
 // The parting of the set by two nodes in the middle of a search from one end of it, one behind the other in its order, where two such nodes
 // part it.
-fn middle_parting(
-    alloc: Global,
-    g: &Graph,
-    nodes: &[bool],
-    end: u32,
-) -> Result<Option<Parting>, NoMemory>
+fn middle_parting(alloc: Global, g: &Graph, nodes: &[bool], end: u32) -> Sought
     requires marks { length nodes.now ≡ g.now.nodes }
     requires end { mark_of nodes.now end ≡ true }
     ensures { IfOk result (λ o. IfSome o (IsParting g.now (mark_of nodes.now))) }
@@ -227,12 +204,7 @@ const NARROW: usize = 16;
 /// nodes are gathered that no two others part from the root, each by a search that stops at the third gathered node that it meets. A few
 /// searches linear in nodes and links, and at most one short one for each node: on networks that are no narrow strips, these look at each
 /// link a few times in all, and on a narrow strip of n nodes at some n²/4.
-pub fn probe(
-    alloc: Global,
-    g: &Graph,
-    nodes: &[bool],
-    root: u32,
-) -> Result<Option<Parting>, NoMemory>
+pub fn probe(alloc: Global, g: &Graph, nodes: &[bool], root: u32) -> Sought
     requires marks { length nodes.now ≡ g.now.nodes }
     requires four { 4 ≤ size g.now (mark_of nodes.now) }
     requires root { mark_of nodes.now root ≡ true }

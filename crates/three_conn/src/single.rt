@@ -5,20 +5,15 @@ ghost use Rattle.tomo_base.specs.Search.{mark_of};
 ghost use Rattle.three_conn.specs.Parting.{IsParting};
 ghost use Rattle.three_conn.specs.Held.{IsWholeButAt};
 
-use crate::known::Parting;
+use crate::known::{Parting, Sought};
 use gate_search::{Advance, GateSearch, advance_from, free_at_first, hold_way, take_free};
 use std::alloc::Global;
-use tomo_base::{Graph, NoMemory};
+use tomo_base::Graph;
 
 // Looks for a node other than the root that parts a connected set, and answers it as both nodes of a parting. Nodes that no single node
 // parts from the root are held, each with a way between two held nodes that a search finds, until all are held or a search ends at a single
 // held node. A few looks at each link.
-pub fn part_at_one(
-    alloc: Global,
-    g: &Graph,
-    nodes: &[bool],
-    root: u32,
-) -> Result<Option<Parting>, NoMemory>
+pub fn part_at_one(alloc: Global, g: &Graph, nodes: &[bool], root: u32) -> Sought
     requires marks { length nodes.now ≡ g.now.nodes }
     requires root { mark_of nodes.now root ≡ true }
     requires connected { IsConnectedIn g.now (mark_of nodes.now) }

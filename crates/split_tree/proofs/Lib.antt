@@ -14,3 +14,4 @@ pub mod Halved
 pub mod Topmost
 pub mod Sounding
 pub mod Shut
+pub mod AllLinked

@@ -15,7 +15,7 @@ use Rattle.tomo_base.proofs.Parting.{without_two-in, without_two-ne, without_two
 use Rattle.three_conn.specs.Parting.{IsParted}
 use Rattle.split_tree.specs.declared.piece.Piece.{Piece}
 use Rattle.split_tree.specs.Pieces.{net, IsPiece}
-use Rattle.split_tree.specs.Parts.{is_unmarked, stays_in, link_stays}
+use Rattle.split_tree.specs.Parts.{is_unmarked, step_stays, link_stays}
 use Rattle.split_tree.proofs.Sounding.{piece_below}
 
 -- a number of the list passes the test
@@ -29,22 +29,22 @@ some_has p (x ∷ xs) h = elim (or_cases (p x) (list_any p xs) h) [
 
 -- each step over a link stays in the set, where each link does in both directions
 steps_stay : (q : ℕ → Bool) (c d : ℕ) (ls : List Link) → list_all (link_stays q c d) ls ≡ true
-    → (u v : ℕ) → any_joins ls u v ≡ true → stays_in q c d u v ≡ true
+    → (u v : ℕ) → any_joins ls u v ≡ true → step_stays q c d u v ≡ true
 unfolding any_joins
 steps_stay q c d [] all u v h = absurd (both_ways false refl h)
 steps_stay q c d (l ∷ ls) all u v h =
     let s = and_parts (link_stays q c d l) (list_all (link_stays q c d) ls) all in
-    let t = and_parts (stays_in q c d l.a l.b) (stays_in q c d l.b l.a) s.0 in
+    let t = and_parts (step_stays q c d l.a l.b) (step_stays q c d l.b l.a) s.0 in
     elim (or_cases (joins l u v) (any_joins ls u v) h) [
       | inl j ↦ elim (joins_gives l u v j) [
-        | inl e ↦ subst (λ x. stays_in q c d x v ≡ true) e.0 (subst (λ y. stays_in q c d l.a y ≡ true) e.1 t.0)
-        | inr e ↦ subst (λ x. stays_in q c d x v ≡ true) e.1 (subst (λ y. stays_in q c d l.b y ≡ true) e.0 t.1)
+        | inl e ↦ subst (λ x. step_stays q c d x v ≡ true) e.0 (subst (λ y. step_stays q c d l.a y ≡ true) e.1 t.0)
+        | inr e ↦ subst (λ x. step_stays q c d x v ≡ true) e.1 (subst (λ y. step_stays q c d l.b y ≡ true) e.0 t.1)
       ]
       | inr r ↦ steps_stay q c d ls s.1 u v r
     ]
 
 -- a step from the set to another node than the two
-stay_gives : (q : ℕ → Bool) (c d u v : ℕ) → stays_in q c d u v ≡ true → q u ≡ true → v ≢ c → v ≢ d → q v ≡ true
+stay_gives : (q : ℕ → Bool) (c d u v : ℕ) → step_stays q c d u v ≡ true → q u ≡ true → v ≢ c → v ≢ d → q v ≡ true
 stay_gives q c d u v stay from vc vd = elim (or_cases (not (q u)) (q v || ((v == c) || (v == d))) stay) [
   | inl off ↦ absurd (both_ways (q u) (not-true (q u) off) from)
   | inr on ↦ elim (or_cases (q v) ((v == c) || (v == d)) on) [

@@ -22,9 +22,9 @@ abbrev pub is_unmarked : List Bool → ℕ → Bool
 is_unmarked marks v = not (mark_of marks v)
 
 -- a step from u to v does not lead out of the set, but to c or d
-abbrev pub stays_in : (ℕ → Bool) → ℕ → ℕ → ℕ → ℕ → Bool
-stays_in q c d u v = not (q u) || (q v || ((v == c) || (v == d)))
+abbrev pub step_stays : (ℕ → Bool) → ℕ → ℕ → ℕ → ℕ → Bool
+step_stays q c d u v = not (q u) || (q v || ((v == c) || (v == d)))
 
 -- nor does a step over the link, in either direction
 abbrev pub link_stays : (ℕ → Bool) → ℕ → ℕ → Link → Bool
-link_stays q c d l = stays_in q c d l.a l.b && stays_in q c d l.b l.a
+link_stays q c d l = step_stays q c d l.a l.b && step_stays q c d l.b l.a

@@ -7,6 +7,7 @@ ghost use Rattle.tomo_base.specs.Parting.{IsThreeConnectedIn};
 ghost use Rattle.split_tree.specs.Pieces.{net};
 ghost use Rattle.split_tree.specs.Stages.{IsStage, IsHalved, IsPairCut};
 
+use crate::complete::is_complete;
 use crate::marked::part;
 use crate::marks::{marks_with, marks_without};
 use crate::parts::is_parted;
@@ -123,6 +124,9 @@ fn next_parting(
     ensures whole { IfOk result (λ o. IfNone o (IsThreeConnectedIn (net n piece.now) (has piece.now.nodes))) }
     ensures parting { IfOk result (λ o. IfSome o (IsPairCut n piece.now)) }
 {
+    if is_complete(piece) {
+        return Ok(None);
+    }
     if let Some(way) = next_way(alloc, n, piece, ways)? {
         return Ok(Some(way));
     }

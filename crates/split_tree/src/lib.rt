@@ -1,6 +1,7 @@
 //! The split tree of a block: cut at pairs of nodes until each piece is small or three-connected; and the three-blocks of the block.
 #![tactic(auto)]
 
+mod complete;
 mod cutting;
 mod marked;
 mod marks;

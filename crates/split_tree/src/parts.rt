@@ -3,7 +3,7 @@ ghost use Rattle.std.specs.Prelude.{◌≡◌, true, IfOk};
 ghost use Rattle.std.specs.List.{list_all, list_any};
 ghost use Rattle.tomo_base.specs.Search.{mark_of};
 ghost use Rattle.tomo_base.specs.Parting.{without_two};
-ghost use Rattle.split_tree.specs.Parts.{is_unmarked, stays_in, link_stays};
+ghost use Rattle.split_tree.specs.Parts.{is_unmarked, step_stays, link_stays};
 ghost use Rattle.split_tree.specs.Stages.{IsStage, IsPairCut};
 
 use crate::piece::Piece;
@@ -34,7 +34,7 @@ fn leaves_some(nodes: &[u32], marks: &[bool], way: &Parting) -> bool
 
 // Whether no step from u to v leads from the marked nodes to others than the two.
 fn stays(marks: &[bool], way: &Parting, u: u32, v: u32) -> bool
-    ensures { result ≡ stays_in (mark_of marks.now) way.now.first way.now.second u v }
+    ensures { result ≡ step_stays (mark_of marks.now) way.now.first way.now.second u v }
 {
     !is_marked(marks, u) || is_marked(marks, v) || v == way.first || v == way.second
 }

@@ -23,8 +23,8 @@ pub enum Verdict {
 /// Judges monitors of a connected graph: `Yes` exactly where they identify every link, and `Bad` exactly where they do not, with the bad
 /// set, ascending. They identify exactly where each node is seen: without any two others, a walk leads from it to a monitor. The first that
 /// is not seen stands in the bad set, which is the least set around it that as few nodes as can be cut off from the monitors. Time is that
-/// of marking the nodes that are seen, which is that of the test of three-connectivity or less, and where one is not seen that of at most
-/// three searches more, each linear in nodes and links. After Ma, He, Leung, Swami and Towsley (2013).
+/// of marking the nodes that are seen, about half that of the test of three-connectivity, and where one is not seen that of at most three
+/// searches more, each linear in nodes and links. After Ma, He, Leung, Swami and Towsley (2013).
 pub fn judge(alloc: Global, g: &Graph, m: &NodeSet) -> Result<Verdict, NoMemory>
     requires connected { IsConnected g.now }
     requires three { 3 ≤ g.now.nodes }

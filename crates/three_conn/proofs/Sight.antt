@@ -109,7 +109,7 @@ seeing_less g m w free side less left c d graph s off less_is left_is =
           ]));
     }
 
--- so there are fewer free nodes
+-- without what is shut off there are fewer free nodes
 pub fewer_left : (g : Network) (w free side left : ℕ → Bool) (c d : ℕ) → ((v : ℕ) → IsTrue (free v) → v < g.nodes) → IsShutOff g w free side c d → ((v : ℕ) → left v ≡ minus free side v) → count g.nodes left < count g.nodes free
 fewer_left g w free side left c d below off left_is =
     let x = off.some.0 in
@@ -128,10 +128,11 @@ all_seen g m marks free size s none = record {
 
 -- ---- marks that are taken away
 
+-- true changes nothing in a conjunction
 and_true : (b : Bool) → b ≡ (b && true)
 and_true b = grind arith
 
--- at first none
+-- the nodes of an empty list take no mark away
 pub none_taken : (xs : List Bool) (v : ℕ) → mark_of xs v ≡ minus (mark_of xs) (has []) v
 unfolding has
 none_taken xs v = and_true (mark_of xs v)
@@ -143,7 +144,7 @@ mark_less xs u v l = elim (cases_eq v u) [
   | inr other ↦ get_or-set_other xs u v false false other ∙ rw (ne_eqb v u other) (and_true (mark_of xs v))
 ]
 
--- and so one node of a list after the other
+-- the node at the next place of a list loses its mark
 pub taken_more : (old now : List Bool) (order : List ℕ) (i x v : ℕ) → i < length order → x ≡ get_or order i 0 → x < length now → mark_of now v ≡ minus (mark_of old) (has (take i order)) v
     → mark_of (set now x false) v ≡ minus (mark_of old) (has (take (i + 1) order)) v
 unfolding has

@@ -1,8 +1,7 @@
 // A piece is cut at two nodes that part it.
-ghost use Rattle.std.specs.Prelude.{◌≡◌, ◌≤◌, ◌<◌, true, length, IfOk, IfSome, IfNone};
+ghost use Rattle.std.specs.Prelude.{◌≡◌, ◌≤◌, ◌<◌, length, IfOk, IfSome, IfNone};
 ghost use Rattle.tomo_base.specs.Limits.{graph_node_limit};
 ghost use Rattle.tomo_base.specs.Sets.{has};
-ghost use Rattle.tomo_base.specs.Search.{mark_of};
 ghost use Rattle.tomo_base.specs.Parting.{IsThreeConnectedIn};
 ghost use Rattle.split_tree.specs.Pieces.{net};
 ghost use Rattle.split_tree.specs.Stages.{IsStage, IsHalved, IsPairCut};
@@ -15,7 +14,7 @@ use crate::piece::Piece;
 use crate::thin::thin_ways;
 use std::alloc::Global;
 use three_conn::{Parting, probe};
-use tomo_base::{Graph, GraphFault, Link, NoMemory, marks_of, sweep};
+use tomo_base::{Graph, GraphFault, Link, NoMemory, Swept, marks_of, sweep};
 
 // Two nodes, and the two parts into which they cut a piece.
 #[derive(Drop)]
@@ -58,61 +57,41 @@ fn next_way(
     Ok(None)
 }
 
-// Whether a search from the root goes over more steps than a sixteenth of the links, as in narrow strips.
-fn is_long(alloc: Global, g: &Graph, marks: &[bool], root: u32) -> Result<bool, NoMemory>
-    requires marks { length marks.now ≡ g.now.nodes }
-    requires root { mark_of marks.now root ≡ true }
-{
-    let found = sweep(alloc, g, marks, &[root])?;
+// Whether more than so many steps lead from the root to the node that the search found last.
+fn is_deep(found: &Swept, root: u32, steps: usize) -> bool {
     let mut v = found.order.last().copied().unwrap_or(root);
-    for _ in 0..g.links().len() / 16 {
+    for _ in 0..steps {
         if v == root {
-            return Ok(false);
+            return false;
         }
         v = found.parent.get(v as usize).copied().unwrap_or(root);
     }
-    Ok(v != root)
+    v != root
 }
 
-// Two nodes that part the piece, and one side. A way is taken unless the piece is long; then, and where no way parts it, the two are looked
-// for around a node in the middle of the list, so that a long piece whose nodes are numbered along it is cut near its middle.
-fn parting_of(
-    alloc: Global,
-    n: u32,
-    piece: &Piece,
-    ways: &mut Vec<Parting>,
-) -> Result<Option<Parting>, NoMemory>
+// A piece of so few nodes is cut at its ways however long it is.
+const FEW: usize = 64;
+
+// Whether the piece is long, with fewer links to a step than 16, and no way has an eighth of its nodes: it is better cut in its middle.
+fn is_long(alloc: Global, n: u32, piece: &Piece, ways: &[Parting]) -> Result<bool, NoMemory>
     requires stage { IsStage n piece.now }
     requires few { n ≤ graph_node_limit }
-    requires four { 4 ≤ length piece.now.nodes }
-    ensures whole { IfOk result (λ o. IfNone o (IsThreeConnectedIn (net n piece.now) (has piece.now.nodes))) }
-    ensures parting { IfOk result (λ o. IfSome o (IsPairCut n piece.now)) }
+    requires some { 1 ≤ length piece.now.nodes }
 {
-    let g = graph_of(alloc, n, piece)?;
     let nodes = piece.nodes.as_slice();
-    let marks = marks_of(alloc, n, nodes)?;
-    let middle = nodes[nodes.len() / 2];
-    if !ways.is_empty() && !is_long(alloc, &g, &marks, middle)? {
-        if let Some(way) = next_way(alloc, n, piece, ways)? {
-            return Ok(Some(way));
-        }
-    }
-    ways.clear();
-    match probe(alloc, &g, &marks, middle)? {
-        Some(parting) => Ok(Some(parting)),
-        None => Ok(None),
-    }
-}
-
-// Whether a way has at least an eighth of the nodes.
-fn has_large(ways: &[Parting], nodes: &[u32]) -> bool {
     let least = nodes.len() / 8;
-    ways.iter().any(|way| way.side.len() >= least)
+    if nodes.len() <= FEW || ways.iter().any(|way| way.side.len() >= least) {
+        return Ok(false);
+    }
+    let g = graph_of(alloc, n, piece)?;
+    let marks = marks_of(alloc, n, nodes)?;
+    let found = sweep(alloc, &g, &marks, &[nodes[0]])?;
+    Ok(is_deep(&found, nodes[0], piece.links.len() / 16))
 }
 
-// Two nodes that part the piece, and one side: at the ends of a way of the list, or else of a thin way that the piece has now, where it has
-// one.
-fn next_parting(
+// Two nodes that part the piece, and one side: at the ends of a way of the list, or else of a thin way that the piece has now. In a long
+// piece without large ways, and where none parts it, the two are looked for around a node in the middle of the list.
+fn parting_of(
     alloc: Global,
     n: u32,
     piece: &Piece,
@@ -132,12 +111,19 @@ fn next_parting(
     }
     let nodes = piece.nodes.as_slice();
     *ways = thin_ways(alloc, n, nodes, piece.links.as_slice())?;
-    if has_large(ways, nodes) {
-        if let Some(way) = next_way(alloc, n, piece, ways)? {
-            return Ok(Some(way));
-        }
+    if !ways.is_empty() && is_long(alloc, n, piece, ways)? {
+        ways.clear();
     }
-    parting_of(alloc, n, piece, ways)
+    if let Some(way) = next_way(alloc, n, piece, ways)? {
+        return Ok(Some(way));
+    }
+    let g = graph_of(alloc, n, piece)?;
+    let marks = marks_of(alloc, n, nodes)?;
+    let middle = nodes[nodes.len() / 2];
+    match probe(alloc, &g, &marks, middle)? {
+        Some(parting) => Ok(Some(parting)),
+        None => Ok(None),
+    }
 }
 
 // The two parts of a piece at two nodes that part it, or none where it is three-connected. The ways are guesses of such nodes.
@@ -153,7 +139,7 @@ pub fn cut(
     ensures whole { IfOk result (λ o. IfNone o (IsThreeConnectedIn (net n piece.now) (has piece.now.nodes))) }
     ensures halved { IfOk result (λ o. IfSome o (IsHalved n piece.now)) }
 {
-    let Some(parting) = next_parting(alloc, n, piece, ways)? else {
+    let Some(parting) = parting_of(alloc, n, piece, ways)? else {
         return Ok(None);
     };
     let pair = Link {

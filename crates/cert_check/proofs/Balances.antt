@@ -1,5 +1,5 @@
 -- Counts of gains and losses.
-use Rattle.std.proofs.Common.{if◌then◌else◌, Result, Ok, Err, OnOk, refl, ◌≡◌, ◌≤◌, ◌<◌, ◌+◌, ◌*◌, ◌^◌, ◌⊎◌, ◌==◌, ◌++◌, ◌∷◌, [], ℕ, zero, suc, ℤ, pos, negsuc, true, false, List, length, take, get_or, slice_get, Some, All, Contains, sym, ap, subst, ◌∙◌, inl, inr, arith}
+use Rattle.std.proofs.Common.{if◌then◌else◌, Result, Ok, Err, OnOk, refl, ◌≡◌, ◌≤◌, ◌<◌, ◌+◌, ◌*◌, ◌^◌, ◌⊎◌, ◌==◌, Bool, not, ◌++◌, ◌∷◌, [], ℕ, zero, suc, ℤ, pos, negsuc, true, false, List, length, take, get_or, slice_get, Some, All, Contains, sym, ap, subst, ◌∙◌, inl, inr, arith}
 use Rattle.std.proofs.lemmas.Bool.{cases_eq, cases_lt, both_ways, ne_eqb, lt-ltb}
 use Rattle.std.proofs.lemmas.List.{get_or_past, get_or_default, length-replicate, length-take}
 use Rattle.std.proofs.Common.{replicate}
@@ -47,51 +47,63 @@ weight_few w f b small (t ∷ ts) each =
     let most : w t.0 * f t.1 ≤ 4 * b = mul-le-mul (small t.0 here.0) here.1 in
     omega (arith, most, weight_few w f b small ts (All-tail (λ (t : ℤ × List ℕ). IsCoefficient t.0 × (f t.1 ≤ b)) t ts each))
 
--- counts after a path, where one of the two arrays grew by the weight
+-- the counts of a side: gains, or losses
+abbrev pub side : Bool → Counts → List ℕ
+side true c = c.gains.items
+side false c = c.losses.items
+
+-- what a coefficient adds to a side
+abbrev pub added_to : Bool → ℤ → ℕ
+added_to true z = gain_of z
+added_to false z = loss_of z
+
+-- what holds of a side and of the other one holds of both
+of_both : (P : Bool → Type 0) (b : Bool) → P b → P (not b) → (s : Bool) → P s
+of_both P true own other true = own
+of_both P true own other false = other
+of_both P false own other true = other
+of_both P false own other false = own
+
+-- each side has a count for each link
+each_long : (links : List Link) (c : Counts) (b : Bool) → HasCounts links c → length (side b c) ≡ length links
+each_long links c true held = held.gain_each
+each_long links c false held = held.loss_each
+
+-- counts after a path, where those of one side grew by the weight
 module _ (links : List Link) (c : Counts) (coef : ℤ) (path : List ℕ) where
-  -- more gains
-  pub gained_more : {U E : Type 0} (r : Result U E) (weight : ℕ) (c' : Counts) → gain_of coef ≡ weight → loss_of coef ≡ 0 → c'.losses ≡ c.losses → HasCounts links c →
-      OnOk r (length c'.gains.items ≡ length links) →
-      OnOk r ((k : ℕ) (l : Link) → slice_get links k ≡ Some l → entry_at c'.gains.items k ≡ entry_at c.gains.items k + weight * uses_of l path) →
-      OnOk r (All (λ k. k < length links) c.touched.items → All (λ k. k < length links) c'.touched.items) → OnOk r ((k : ℕ) → Contains c.touched.items k → Contains c'.touched.items k) →
-      OnOk r ((k : ℕ) → Contains c'.touched.items k ⊎ (entry_at c'.gains.items k ≡ entry_at c.gains.items k)) →
-      OnOk r ((terms : List (ℤ × List ℕ)) → IsCounted links terms c → IsCounted links (terms ++ (coef, path) ∷ []) c')
-  gained_more (Err e) weight c' gain loss same held size counted inside kept touched = tt
-  gained_more (Ok u) weight c' gain loss same held size counted inside kept touched = λ terms was. record {
+  -- both sides grew by what the coefficient adds to them
+  both_more : (c' : Counts) → HasCounts links c → ((b : Bool) → length (side b c') ≡ length links)
+      → ((b : Bool) (k : ℕ) (l : Link) → slice_get links k ≡ Some l → entry_at (side b c') k ≡ entry_at (side b c) k + added_to b coef * uses_of l path)
+      → (All (λ k. k < length links) c.touched.items → All (λ k. k < length links) c'.touched.items) → ((k : ℕ) → Contains c.touched.items k → Contains c'.touched.items k)
+      → ((k : ℕ) → Contains c'.touched.items k ⊎ ((b : Bool) → entry_at (side b c') k ≡ entry_at (side b c) k))
+      → (terms : List (ℤ × List ℕ)) → IsCounted links terms c → IsCounted links (terms ++ (coef, path) ∷ []) c'
+  both_more c' held size counted inside kept touched terms was = record {
     has = record {
-      gain_each = size;
-      loss_each = rw same held.loss_each;
+      gain_each = size true;
+      loss_each = size false;
       in_links = inside held.in_links;
       untouched = λ k. elim (held.untouched k) [
         | inl there ↦ inl (kept k there)
-        | inr bare ↦ elim (touched k) [ inl there ↦ inl there | inr still ↦ inr (still ∙ bare.0, rw same bare.1) ]
+        | inr bare ↦ elim (touched k) [ inl there ↦ inl there | inr still ↦ inr (still true ∙ bare.0, still false ∙ bare.1) ]
       ];
     };
-    gained = λ k l at. rw weighted-push (omega (arith, counted k l at, was.gained k l at, ap (λ w. w * uses_of l path) gain));
-    lost = λ k l at. rw (weighted-push, same) (omega (arith, was.lost k l at, ap (λ w. w * uses_of l path) loss));
+    gained = λ k l at. rw weighted-push (omega (arith, counted true k l at, was.gained k l at));
+    lost = λ k l at. rw weighted-push (omega (arith, counted false k l at, was.lost k l at));
   }
 
-  -- more losses
-  pub lost_more : {U E : Type 0} (r : Result U E) (weight : ℕ) (c' : Counts) → loss_of coef ≡ weight → gain_of coef ≡ 0 → c'.gains ≡ c.gains → HasCounts links c →
-      OnOk r (length c'.losses.items ≡ length links) →
-      OnOk r ((k : ℕ) (l : Link) → slice_get links k ≡ Some l → entry_at c'.losses.items k ≡ entry_at c.losses.items k + weight * uses_of l path) →
+  -- one side grew
+  pub counted_more : {U E : Type 0} (r : Result U E) (b : Bool) (weight : ℕ) (c' : Counts) → added_to b coef ≡ weight → added_to (not b) coef ≡ 0 → side (not b) c' ≡ side (not b) c → HasCounts links c →
+      OnOk r (length (side b c') ≡ length links) →
+      OnOk r ((k : ℕ) (l : Link) → slice_get links k ≡ Some l → entry_at (side b c') k ≡ entry_at (side b c) k + weight * uses_of l path) →
       OnOk r (All (λ k. k < length links) c.touched.items → All (λ k. k < length links) c'.touched.items) → OnOk r ((k : ℕ) → Contains c.touched.items k → Contains c'.touched.items k) →
-      OnOk r ((k : ℕ) → Contains c'.touched.items k ⊎ (entry_at c'.losses.items k ≡ entry_at c.losses.items k)) →
+      OnOk r ((k : ℕ) → Contains c'.touched.items k ⊎ (entry_at (side b c') k ≡ entry_at (side b c) k)) →
       OnOk r ((terms : List (ℤ × List ℕ)) → IsCounted links terms c → IsCounted links (terms ++ (coef, path) ∷ []) c')
-  lost_more (Err e) weight c' loss gain same held size counted inside kept touched = tt
-  lost_more (Ok u) weight c' loss gain same held size counted inside kept touched = λ terms was. record {
-    has = record {
-      gain_each = rw same held.gain_each;
-      loss_each = size;
-      in_links = inside held.in_links;
-      untouched = λ k. elim (held.untouched k) [
-        | inl there ↦ inl (kept k there)
-        | inr bare ↦ elim (touched k) [ inl there ↦ inl there | inr still ↦ inr (rw same bare.0, still ∙ bare.1) ]
-      ];
-    };
-    gained = λ k l at. rw (weighted-push, same) (omega (arith, was.gained k l at, ap (λ w. w * uses_of l path) gain));
-    lost = λ k l at. rw weighted-push (omega (arith, counted k l at, was.lost k l at, ap (λ w. w * uses_of l path) loss));
-  }
+  counted_more (Err e) b weight c' own other same held size counted inside kept touched = tt
+  counted_more (Ok u) b weight c' own other same held size counted inside kept touched =
+      both_more c' held (of_both (λ s. length (side s c') ≡ length links) b size (rw same (each_long links c (not b) held)))
+      (of_both (λ s. (k : ℕ) (l : Link) → slice_get links k ≡ Some l → entry_at (side s c') k ≡ entry_at (side s c) k + added_to s coef * uses_of l path) b
+      (λ k l at. rw own (counted k l at)) (λ k l at. rw (same, other) (omega arith)))
+      inside kept (λ k. elim (touched k) [ inl there ↦ inl there | inr still ↦ inr (of_both (λ s. entry_at (side s c') k ≡ entry_at (side s c) k) b still (rw same refl)) ])
 
 -- link k occurs twice where it is link i, and else zero times
 abbrev pub IsRightAt : Counts → ℕ → ℕ → Type 0

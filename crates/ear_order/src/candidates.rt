@@ -27,10 +27,7 @@ pub fn last_ear(alloc: Global, g: &Graph, old: &[bool], u: u32) -> Result<Vec<u3
     let Some(second) = near(g, u, old, first) else {
         unreachable!()
     };
-    let mut ear: Vec<u32> = Vec::new(alloc);
-    ear.push(first)?;
-    ear.push(u)?;
-    ear.push(second)?;
+    let ear = [first, u, second].to_vec(alloc)?;
     Ok(ear)
 }
 

@@ -68,12 +68,7 @@ filled_one false false l t = refl
 
 -- one free node: a monitor, or idle
 free_one : (x m l : Bool) → one_if (x && not l) ≡ one_if (m && (x && not l)) + one_if (x && not (x && (m || l)))
-free_one true true true = refl
-free_one true true false = refl
-free_one true false true = refl
-free_one true false false = refl
-free_one false true l = refl
-free_one false false l = refl
+free_one x m l = grind arith
 
 -- an idle node is free and no monitor
 idle_free : (x m l : Bool) → (x && not (x && (m || l))) ≡ true → ((x && not l) ≡ true) × (m ≡ false)

@@ -59,12 +59,7 @@ free_wider g x y graph sub v m = free-from g y v (sub v (free-in g x v m)) (λ u
 
 -- one node of x: it leaves, or it is free and a monitor
 count_one : (x m l : Bool) → one_if (x && (m || l)) ≡ one_if (x && l) + one_if (m && (x && not l))
-count_one true true true = refl
-count_one true true false = refl
-count_one true false true = refl
-count_one true false false = refl
-count_one false true l = refl
-count_one false false l = refl
+count_one x m l = grind arith
 
 -- the nodes that count are the edge and the free monitors
 pub counting_parts : (g : Network) (x m : ℕ → Bool) → size g (counting g x m) ≡ size g (edge g x) + size g (meet m (free g x))

@@ -7,7 +7,7 @@ use Rattle.std.specs.Str.{bytes_eq}
 use Rattle.answers.specs.declared.drilling.DrillNumbers.{DrillNumbers}
 use Rattle.answers.specs.Drilling.{fit}
 use Rattle.tomo_run.specs.Numbers.{number_of, numbers_in, numbers_of}
-use Rattle.tomo_run.specs.Table.{shape, shaped, with_one_more, fitted_if, drill_with, drill_shape, fits, first_place, has_header, files_of, word_count, file_words, named, begins_option, no_options}
+use Rattle.tomo_run.specs.Table.{shape, shaped, with_one_more, fitted_if, drill_with, drill_shape, fits, first_place, has_header, files_of, word_count, file_words, by_shape, named_files, begins_option, no_options}
 use Rattle.tomo_run.specs.Machine.{begun, start, EndIsFit, Fewer}
 use Rattle.tomo_run.specs.declared.table.FileTask.{FileTask}
 use Rattle.answers.specs.declared.inputs.Inputs.TheVariants as inputs
@@ -67,7 +67,7 @@ rest-count words s e = elim (cases_Bool (bytes_eq (get_or words 0 []) (codes "dr
 
 -- the files of a shape are the words from its place on
 files-of-shape : (words : List (List ℕ)) (s : Shape) → shape words ≡ Some s → file_words words ≡ take (length (files_of s.command)) (drop (first_place s.header) words)
-files-of-shape words s e = ap (named words) e
+files-of-shape words s e = ap (by_shape named_files words) e
 
 -- the words name as many files as the command reads
 pub file_count : (words : List (List ℕ)) (s : Shape) → shape words ≡ Some s → length (file_words words) ≡ length (files_of s.command)

@@ -123,24 +123,19 @@ shape words =
 abbrev pub named_files : Shape → List (List ℕ) → List (List ℕ)
 named_files shape words = take (length (files_of shape.command)) (drop (first_place shape.header) words)
 
--- the names of the files, where there is a shape
-abbrev pub named : List (List ℕ) → Option Shape → List (List ℕ)
-named words None = []
-named words (Some shape) = named_files shape words
+-- what stands in the words by their shape; nothing, where they have none
+abbrev pub by_shape : (Shape → List (List ℕ) → List (List ℕ)) → List (List ℕ) → Option Shape → List (List ℕ)
+by_shape part words None = []
+by_shape part words (Some shape) = part shape words
 
 -- the words that name files, in their order
 abbrev pub file_words : List (List ℕ) → List (List ℕ)
-file_words words = named words (shape words)
+file_words words = by_shape named_files words (shape words)
 
 -- the words after the files of a shape
 abbrev pub rest_of : Shape → List (List ℕ) → List (List ℕ)
 rest_of shape words = drop (length (files_of shape.command)) (drop (first_place shape.header) words)
 
--- the words after the files, where there is a shape
-abbrev pub rest : List (List ℕ) → Option Shape → List (List ℕ)
-rest words None = []
-rest words (Some shape) = rest_of shape words
-
 -- the words after those that name files
 abbrev pub last_words : List (List ℕ) → List (List ℕ)
-last_words words = rest words (shape words)
+last_words words = by_shape rest_of words (shape words)

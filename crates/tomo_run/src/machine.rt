@@ -113,14 +113,11 @@ fn with_topology(task: FileTask, topology: Topology) -> Next
     }
 }
 
+// What comes after a file that was taken in.
+type Taken = Result<Next, NoMemory>;
+
 // Takes in a topology.
-fn take_topology(
-    alloc: Global,
-    task: FileTask,
-    header: bool,
-    name: &str,
-    rows: &Rows,
-) -> Result<Next, NoMemory>
+fn take_topology(alloc: Global, task: FileTask, header: bool, name: &str, rows: &Rows) -> Taken
     ensures taken { IfOk result (λ next. TakesTopology task header name.now rows.now.closed next) }
     ensures fewer { IfOk result (λ next. Fewer (length (files_of (OnFiles task))) next) }
 {
@@ -139,7 +136,7 @@ fn take_monitors(
     topology: Topology,
     name: &str,
     rows: &Rows,
-) -> Result<Next, NoMemory>
+) -> Taken
     ensures taken { IfOk result (λ next. TakesMonitors task topology name.now rows.now.closed next) }
     ensures fewer { IfOk result (λ next. Fewer 1 next) }
 {
@@ -150,7 +147,7 @@ fn take_monitors(
 }
 
 // Takes in a choice.
-fn take_choice(alloc: Global, topology: Topology, name: &str, rows: &Rows) -> Result<Next, NoMemory>
+fn take_choice(alloc: Global, topology: Topology, name: &str, rows: &Rows) -> Taken
     ensures taken { IfOk result (λ next. TakesChoice topology name.now rows.now.closed next) }
     ensures fewer { IfOk result (λ next. Fewer 1 next) }
 {
@@ -184,7 +181,7 @@ fn with_plan(
     topology: Topology,
     plan: Plan,
     name: &str,
-) -> Result<Next, NoMemory>
+) -> Taken
     requires { row_count plan < 2 ^ 32 }
     ensures after { IfOk result (λ next. GoesOn task topology plan name.now next) }
     ensures fewer { IfOk result (λ next. Fewer (files_left (APlan task topology)) next) }
@@ -209,7 +206,7 @@ fn take_plan(
     topology: Topology,
     name: &str,
     rows: &Rows,
-) -> Result<Next, NoMemory>
+) -> Taken
     requires { byte_count rows.now.closed < 2 ^ 31 }
     ensures taken { IfOk result (λ next. TakesPlan task topology name.now rows.now.closed next) }
     ensures fewer { IfOk result (λ next. Fewer (files_left (APlan task topology)) next) }
@@ -221,7 +218,7 @@ fn take_plan(
 }
 
 // Takes in rounds of sums along the paths of a plan.
-fn take_sums(alloc: Global, checked: Checked, name: &str, rows: &Rows) -> Result<Next, NoMemory>
+fn take_sums(alloc: Global, checked: Checked, name: &str, rows: &Rows) -> Taken
     requires { length rows.now.closed ≤ limit RoundFile }
     ensures taken { IfOk result (λ next. TakesSums checked name.now rows.now.closed next) }
     ensures fewer { IfOk result (λ next. Fewer 1 next) }
@@ -233,7 +230,7 @@ fn take_sums(alloc: Global, checked: Checked, name: &str, rows: &Rows) -> Result
 }
 
 // Takes in a file that is within its limit, and gives its bytes back once its rows are read.
-fn take_in(alloc: Global, wants: Wants, name: &str, content: Vec<u8>) -> Result<Next, NoMemory>
+fn take_in(alloc: Global, wants: Wants, name: &str, content: Vec<u8>) -> Taken
     requires { length content.items ≤ limit (kind_of wants) }
     ensures taken { IfOk result (λ next. Takes wants name.now (rows_of content.items) next) }
     ensures fewer { IfOk result (λ next. Fewer (files_left wants) next) }
@@ -258,7 +255,7 @@ pub fn feed(
     name: &str,
     got: Got,
     content: Vec<u8>,
-) -> Result<Next, NoMemory>
+) -> Taken
     requires { length content.items ≤ limit (kind_of wants) }
     ensures steps { IfOk result (λ next. StepsBy wants name.now got content.items next) }
     ensures fewer { IfOk result (λ next. Fewer (files_left wants) next) }

@@ -7,9 +7,10 @@ use Rattle.ear_order.specs.Ears.{IsEar}
 use Rattle.ear_order.specs.Turns.{Zone, IsTurn, IsBetter, IsSpot}
 use Rattle.tomo_base.proofs.Marks.{marked_below}
 use Rattle.ear_order.proofs.Spots.{ear_below}
+use Rattle.ear_order.proofs.Offers.{Offer}
 use Rattle.ear_order.proofs.Results.{if_ok_two}
 use Rattle.ear_order.proofs.Bettering.{spots_three, offer_three, is_better}
-use Rattle.ear_order.proofs.candidates.around.Goals.{After-nodes-nodes}
+use Rattle.ear_order.proofs.candidates.around.Goals.{After-nodes-nodes, After-deref}
 use Rattle.ear_order.proofs.candidates.around.Goals as goal
 
 pub first_spot-requires-clause-nodes : goal.first_spot-requires-clause-nodes
@@ -35,35 +36,26 @@ unreachable-requires c = let s = some_spot (goal.at.unreachable-requires c).Afte
 pub unreachable-requires-in_default-last_spot : goal.unreachable-requires-in_default-last_spot
 unreachable-requires-in_default-last_spot c = let s = some_spot (goal.at.unreachable-requires-in_default-last_spot c).After-nodes-nodes in false≢true (c.in_default-last_spot.ensures.none s.0 s.1)
 
+-- the part widened by the ear between the first and the last place that touches it offers a better ear
+offer : (c : After-deref) (R C : ℕ → Bool) (u : ℕ) → IsTurn c.args.g.now (mark_of c.args.old.now) c.args.ear.now (mark_of c.args.part.now) R C u
+    → Offer c.args.g.now (mark_of c.args.old.now) R C (mark_of c.deref.result.now) (entry_at c.args.ear.now 0)
+offer c R C u t =
+    rw c.deref.ensures.value (offer_three c.args.g.now c.nodes-nodes.ensures.graph c.requires.three (mark_of c.args.old.now) (λ v h. subst (λ n. v < n) c.requires.size (marked_below c.args.old.now v h)) c.requires.two c.args.ear.now c.requires.ear
+    (mark_of c.args.part.now) R C u t c.in-Some.low c.in-Some-last_spot.high (mark_of c.in_ok-zone.zone.items) c.in_ok-zone.ensures.zone c.in-Some.ensures.spot c.in-Some.ensures.first
+    c.in-Some-last_spot.ensures.spot c.in-Some-last_spot.ensures.last (λ w o y. false≢true (c.requires.none w o y)))
+
 pub cross-requires-clause-off : goal.cross-requires-clause-off
-cross-requires-clause-off c =
-    let g = c.args.g.now in
-    let t = c.requires.turn in
-    let o = offer_three g c.nodes-nodes.ensures.graph c.requires.three (mark_of c.args.old.now) (λ v h. subst (λ n. v < n) c.requires.size (marked_below c.args.old.now v h)) c.requires.two c.args.ear.now c.requires.ear
-    (mark_of c.args.part.now) t.0 t.1 t.2 t.3 c.in-Some.low c.in-Some-last_spot.high (mark_of c.in_ok-zone.zone.items) c.in_ok-zone.ensures.zone c.in-Some.ensures.spot c.in-Some.ensures.first
-    c.in-Some-last_spot.ensures.spot c.in-Some-last_spot.ensures.last (λ w o y. false≢true (c.requires.none w o y)) in
-    rw c.deref.ensures.value o.off_old
+cross-requires-clause-off c = let t = c.requires.turn in (offer (goal.at.cross-requires-clause-off c).After-deref t.0 t.1 t.2 t.3).off_old
 
 pub cross-requires-clause-crosses : goal.cross-requires-clause-crosses
-cross-requires-clause-crosses c =
-    let g = c.args.g.now in
-    let t = c.requires.turn in
-    let o = offer_three g c.nodes-nodes.ensures.graph c.requires.three (mark_of c.args.old.now) (λ v h. subst (λ n. v < n) c.requires.size (marked_below c.args.old.now v h)) c.requires.two c.args.ear.now c.requires.ear
-    (mark_of c.args.part.now) t.0 t.1 t.2 t.3 c.in-Some.low c.in-Some-last_spot.high (mark_of c.in_ok-zone.zone.items) c.in_ok-zone.ensures.zone c.in-Some.ensures.spot c.in-Some.ensures.first
-    c.in-Some-last_spot.ensures.spot c.in-Some-last_spot.ensures.last (λ w o y. false≢true (c.requires.none w o y)) in
-    rw c.deref.ensures.value o.crosses
+cross-requires-clause-crosses c = let t = c.requires.turn in (offer (goal.at.cross-requires-clause-crosses c).After-deref t.0 t.1 t.2 t.3).crosses
 
 pub returns : goal.returns
 returns c =
     let g = c.args.g.now in
     let D = mark_of c.args.old.now in
     let zone = c.deref.result.now in
-    let zone_is : Zone (mark_of c.args.part.now) (entry_at c.args.ear.now) (length c.args.ear.now - 1) c.in-Some.low c.in-Some-last_spot.high (mark_of zone) =
-    subst (λ z. Zone (mark_of c.args.part.now) (entry_at c.args.ear.now) (length c.args.ear.now - 1) c.in-Some.low c.in-Some-last_spot.high (mark_of z)) (sym c.deref.ensures.value) c.in_ok-zone.ensures.zone in
     if_ok_two c.cross.result (λ (e : Vec ℕ Global). IsEar g D e.items) (λ (e : Vec ℕ Global). AllWithin (λ v. mark_of zone v ≡ true) e.items 1 (length e.items - 1))
     (λ (e : Vec ℕ Global). (R C : ℕ → Bool) (u : ℕ) → IsTurn g D c.args.ear.now (mark_of c.args.part.now) R C u → IsBetter g D R C e.items)
-    (λ e ear through R C u t. is_better g D R C (mark_of zone) (entry_at c.args.ear.now 0) e.items
-    (offer_three g c.nodes-nodes.ensures.graph c.requires.three D (λ v h. subst (λ n. v < n) c.requires.size (marked_below c.args.old.now v h)) c.requires.two c.args.ear.now c.requires.ear
-    (mark_of c.args.part.now) R C u t c.in-Some.low c.in-Some-last_spot.high (mark_of zone) zone_is c.in-Some.ensures.spot c.in-Some.ensures.first
-    c.in-Some-last_spot.ensures.spot c.in-Some-last_spot.ensures.last (λ w o y. false≢true (c.requires.none w o y))) ear through)
+    (λ e ear through R C u t. is_better g D R C (mark_of zone) (entry_at c.args.ear.now 0) e.items (offer (goal.at.returns c).After-deref R C u t) ear through)
     c.cross.ensures.ear c.cross.ensures.through

@@ -14,10 +14,10 @@ unreachable-requires-in_default-near c =
     w.3 (c.in_default-near.ensures.none w.0 w.1 w.2)
 
 pub returns-clause-ear : goal.returns-clause-ear
-returns-clause-ear c = rw (c.in_ok-push-3.ensures.items, c.in_ok-push-2.ensures.items, c.in_ok-push.ensures.items, c.new-ear.ensures.items)
+returns-clause-ear c = rw (c.in_ok-ear.ensures.items_if_clones_equal (λ x y h. h))
     (over_last c.args.g.now c.nodes-none.ensures.graph c.args.old.now c.args.u c.requires.left c.in-Some.first c.in-Some-near.second c.in-Some.ensures.link c.in-Some.ensures.marked
     c.in-Some-near.ensures.link c.in-Some-near.ensures.marked c.in-Some-near.ensures.differs)
 
 pub returns-clause-last : goal.returns-clause-last
-returns-clause-last c = rw (c.in_ok-push-3.ensures.items, c.in_ok-push-2.ensures.items, c.in_ok-push.ensures.items, c.new-ear.ensures.items)
+returns-clause-last c = rw (c.in_ok-ear.ensures.items_if_clones_equal (λ x y h. h))
     (is_last c.args.g.now c.nodes-none.ensures.graph c.args.old.now c.args.u c.requires.left c.requires.alone c.in-Some.first c.in-Some-near.second)

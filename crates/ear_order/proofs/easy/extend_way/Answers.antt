@@ -4,21 +4,22 @@ use Rattle.tomo_base.specs.Search.{mark_of, entry_at}
 use Rattle.tomo_base.proofs.Links.{linked_below}
 use Rattle.ear_order.specs.Easy.{GoesOnTo}
 use Rattle.ear_order.proofs.Ways.{way_below, way_more}
+use Rattle.ear_order.proofs.easy.extend_way.Goals.{After-index-end}
 use Rattle.ear_order.proofs.easy.extend_way.Goals as goal
 
-pub near-requires-clause-node : goal.near-requires-clause-node
-near-requires-clause-node c =
+-- the end of the way is a node
+end_below : (c : After-index-end) → c.index-end.result.now < c.args.g.now.nodes
+end_below c =
     let way = c.loop.way.items in
     let last : c.len.result ≡ length way = omega (arith, c.len.ensures, c.loop.way.ok) in
     let within : c.len.result - 1 < length way = omega (arith, last, c.loop.invariant.1.some) in
     rw (get_or_read way _ _ within c.index-end.ensures 0) (way_below c.args.g.now (mark_of c.args.old.now) c.args.u (mark_of c.loop.gone.items) way c.loop.invariant.1 c.nodes-nodes.ensures.graph (c.len.result - 1) within)
 
+pub near-requires-clause-node : goal.near-requires-clause-node
+near-requires-clause-node c = end_below (goal.at.near-requires-clause-node c).After-index-end
+
 pub next_over-requires-clause-node : goal.next_over-requires-clause-node
-next_over-requires-clause-node c =
-    let way = c.loop.way.items in
-    let last : c.len.result ≡ length way = omega (arith, c.len.ensures, c.loop.way.ok) in
-    let within : c.len.result - 1 < length way = omega (arith, last, c.loop.invariant.1.some) in
-    rw (get_or_read way _ _ within c.index-end.ensures 0) (way_below c.args.g.now (mark_of c.args.old.now) c.args.u (mark_of c.loop.gone.items) way c.loop.invariant.1 c.nodes-nodes.ensures.graph (c.len.result - 1) within)
+next_over-requires-clause-node c = end_below (goal.at.next_over-requires-clause-node c).After-index-end
 
 pub index_mut-requires : goal.index_mut-requires
 index_mut-requires c =

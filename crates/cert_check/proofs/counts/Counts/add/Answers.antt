@@ -1,5 +1,5 @@
-use Rattle.std.proofs.Common.{refl, ◌∙◌}
-use Rattle.cert_check.proofs.Balances.{gained_more, lost_more, gain_is, loss_is, byte_same}
+use Rattle.std.proofs.Common.{true, false, refl, ◌∙◌}
+use Rattle.cert_check.proofs.Balances.{counted_more, gain_is, loss_is, byte_same}
 use Rattle.cert_check.proofs.counts.Counts.add.Goals as goal
 
 pub returns-then-coef-gt0 : goal.returns-then-coef-gt0
@@ -7,7 +7,7 @@ returns-then-coef-gt0 c =
     let coef = c.args.coef in
     let same = byte_same coef c.requires.coefficient in
     let weight = gain_is coef c.from-weight.result (rw same at c.if-coef-gt0.true) (c.from-weight.ensures ∙ rw same at c.unsigned_abs.ensures.value) in
-    gained_more c.args.g.now.links c.args.self.now coef c.args.path.now c.count_path.result c.from-weight.result _ weight.0 weight.1 refl c.requires.counts c.count_path.ensures.size c.count_path.ensures.counted c.count_path.ensures.links c.count_path.ensures.kept c.count_path.ensures.touched
+    counted_more c.args.g.now.links c.args.self.now coef c.args.path.now c.count_path.result true c.from-weight.result _ weight.0 weight.1 refl c.requires.counts c.count_path.ensures.size c.count_path.ensures.counted c.count_path.ensures.links c.count_path.ensures.kept c.count_path.ensures.touched
 
 pub returns-else-coef-gt0 : goal.returns-else-coef-gt0
 returns-else-coef-gt0 c =
@@ -15,4 +15,4 @@ returns-else-coef-gt0 c =
     let call = c.count_path-else-coef-gt0 in
     let same = byte_same coef c.requires.coefficient in
     let weight = loss_is coef c.from-weight.result c.requires.coefficient (rw same at c.if-coef-gt0.false) (c.from-weight.ensures ∙ rw same at c.unsigned_abs.ensures.value) in
-    lost_more c.args.g.now.links c.args.self.now coef c.args.path.now call.result c.from-weight.result _ weight.0 weight.1 refl c.requires.counts call.ensures.size call.ensures.counted call.ensures.links call.ensures.kept call.ensures.touched
+    counted_more c.args.g.now.links c.args.self.now coef c.args.path.now call.result false c.from-weight.result _ weight.0 weight.1 refl c.requires.counts call.ensures.size call.ensures.counted call.ensures.links call.ensures.kept call.ensures.touched

@@ -21,10 +21,10 @@ pub fn part_at_one(alloc: Global, g: &Graph, nodes: &[bool], root: u32) -> Sough
     ensures parting { IfOk result (λ o. IfSome o (IsParting g.now (mark_of nodes.now))) }
     ensures one { IfOk result (λ o. IfSome o (λ p. p.first ≡ p.second)) }
 {
-    let mut free = free_at_first(alloc, g, nodes, root)?;
-    let mut search = GateSearch::new(alloc, g.nodes())?;
-    let mut starts = Vec::new(alloc);
     let mut x = 0;
+    let mut starts = Vec::new(alloc);
+    let mut search = GateSearch::new(alloc, g.nodes())?;
+    let mut free = free_at_first(alloc, g, nodes, root)?;
     while x < g.nodes() {
         if free[x as usize] {
             let start = take_free(&free, &mut starts, x);

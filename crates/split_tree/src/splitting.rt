@@ -7,7 +7,7 @@ ghost use Rattle.split_tree.specs.Pieces.{IsPieceOf};
 ghost use Rattle.split_tree.specs.Stages.{IsStage};
 ghost use Rattle.split_tree.specs.Trees.{Facts, piece_of, depth_of};
 
-use crate::cutting::cut;
+use crate::cutting::{cut, parting_of};
 use crate::marked::marked_links;
 use crate::piece::Piece;
 use crate::tree::{SplitTree, Tree, joined};
@@ -27,9 +27,10 @@ fn build(alloc: Global, n: u32, piece: Piece, ways: &mut Vec<Parting>) -> Result
     if piece.nodes.len() <= 3 {
         return Ok(Tree::Small(piece));
     }
-    match cut(alloc, n, &piece, ways)? {
+    match parting_of(alloc, n, &piece, ways)? {
         None => Ok(Tree::Rigid(piece)),
-        Some(halves) => {
+        Some(parting) => {
+            let halves = cut(alloc, n, &piece, &parting)?;
             let left = build(alloc, n, halves.left, &mut Vec::new(alloc))?;
             let right = build(alloc, n, halves.right, ways)?;
             joined(alloc, piece, halves.pair, left, right)

@@ -90,8 +90,9 @@ fn is_long(alloc: Global, n: u32, piece: &Piece, ways: &[Parting]) -> Result<boo
 }
 
 // Two nodes that part the piece, and one side: at the ends of a way of the list, or else of a thin way that the piece has now. In a long
-// piece without large ways, and where none parts it, the two are looked for around a node in the middle of the list.
-fn parting_of(
+// piece without large ways, and where none parts it, the two are looked for around a node in the middle of the list. None where the piece is
+// three-connected.
+pub fn parting_of(
     alloc: Global,
     n: u32,
     piece: &Piece,
@@ -126,22 +127,12 @@ fn parting_of(
     }
 }
 
-// The two parts of a piece at two nodes that part it, or none where it is three-connected. The ways are guesses of such nodes.
-pub fn cut(
-    alloc: Global,
-    n: u32,
-    piece: &Piece,
-    ways: &mut Vec<Parting>,
-) -> Result<Option<Halves>, NoMemory>
+// The two parts of a piece at two nodes that part it.
+pub fn cut(alloc: Global, n: u32, piece: &Piece, parting: &Parting) -> Result<Halves, NoMemory>
     requires stage { IsStage n piece.now }
-    requires few { n ≤ graph_node_limit }
-    requires four { 4 ≤ length piece.now.nodes }
-    ensures whole { IfOk result (λ o. IfNone o (IsThreeConnectedIn (net n piece.now) (has piece.now.nodes))) }
-    ensures halved { IfOk result (λ o. IfSome o (IsHalved n piece.now)) }
+    requires parting { IsPairCut n piece.now parting.now }
+    ensures { IfOk result (IsHalved n piece.now) }
 {
-    let Some(parting) = parting_of(alloc, n, piece, ways)? else {
-        return Ok(None);
-    };
     let pair = Link {
         a: parting.first.min(parting.second),
         b: parting.first.max(parting.second),
@@ -150,5 +141,5 @@ pub fn cut(
     let far = marks_without(alloc, n, piece.nodes.as_slice(), &parting.side)?;
     let left = part(alloc, n, piece, &near, pair)?;
     let right = part(alloc, n, piece, &far, pair)?;
-    Ok(Some(Halves { pair, left, right }))
+    Ok(Halves { pair, left, right })
 }

@@ -7,7 +7,7 @@ ghost use Rattle.split_tree.specs.Pieces.{IsPieceOf};
 ghost use Rattle.split_tree.specs.Stages.{IsStage};
 ghost use Rattle.split_tree.specs.Trees.{Facts, piece_of, depth_of};
 
-use crate::cutting::cut;
+use crate::cutting::{cut, parting_of};
 use crate::marked::marked_links;
 use crate::piece::Piece;
 use crate::tree::{SplitTree, Tree, joined};
@@ -27,9 +27,10 @@ fn build(alloc: Global, n: u32, piece: Piece, ways: &mut Vec<Parting>) -> Result
     if piece.nodes.len() <= 3 {
         return Ok(Tree::Small(piece));
     }
-    match cut(alloc, n, &piece, ways)? {
+    match parting_of(alloc, n, &piece, ways)? {
         None => Ok(Tree::Rigid(piece)),
-        Some(halves) => {
+        Some(parting) => {
+            let halves = cut(alloc, n, &piece, &parting)?;
             let left = build(alloc, n, halves.left, &mut Vec::new(alloc))?;
             let right = build(alloc, n, halves.right, ways)?;
             joined(alloc, piece, halves.pair, left, right)
@@ -55,9 +56,10 @@ fn whole(alloc: Global, g: &Graph, block: &NodeSet) -> Result<Piece, NoMemory>
 
 /// The split tree of a block of at least three nodes, whose topmost piece is the block with its links. A piece of more than three nodes is
 /// cut at two nodes that part it, as long as there are two, into two parts; each part gets the link between the two. After Hopcroft and
-/// Tarjan (1973), in another way: pieces are cut one by one, each with a test of three-connectivity, so of at most about three searches for
-/// each node of the piece. Rings are cut in half, and strips whose nodes are numbered along them too; a piece from which each
-/// cut takes few nodes may need as many levels as it has nodes.
+/// Tarjan (1973), in another way: pieces are cut one by one. A path whose inner nodes have two neighbours each is cut off at its ends, in a
+/// few passes over the nodes and links of the piece, and over one mark for each node of the graph; a piece whose nodes are all linked takes no
+/// pass. Any other takes a test of three-connectivity, so at most about three searches for each node of it. Rings are cut in half, and long
+/// strips near their middle; a piece from which each cut takes few nodes may need as many levels as it has nodes, each with a piece of its own.
 pub fn split(alloc: Global, g: &Graph, block: &NodeSet) -> Result<SplitTree, NoMemory>
     requires block { IsBlock g.now (has block.now) }
     requires nodes { All (λ v. v < g.now.nodes) block.now }

@@ -8,33 +8,27 @@ use Rattle.split_tree.proofs.cutting.cut.Goals as goal
 
 pub marks_with-requires-clause-nodes : goal.marks_with-requires-clause-nodes
 marks_with-requires-clause-nodes c =
-    let pc = rw c.in-Some.is at c.in_ok-parting.ensures.parting in
-    rw c.deref.ensures.value (All-from_has (λ v. v < c.args.n) c.in-Some.parting.side.items (λ v h. piece_below c.args.n c.args.piece.now c.requires.stage.is v (without_two-in (has c.args.piece.now.nodes) _ _ v (pc.parted.inside v h))))
+    rw c.deref.ensures.value (All-from_has (λ v. v < c.args.n) c.args.parting.now.side.items (λ v h. piece_below c.args.n c.args.piece.now c.requires.stage.is v (without_two-in (has c.args.piece.now.nodes) _ _ v (c.requires.parting.parted.inside v h))))
 
 pub marks_with-requires-clause-first : goal.marks_with-requires-clause-first
 marks_with-requires-clause-first c =
-    let pc = rw c.in-Some.is at c.in_ok-parting.ensures.parting in
-    omega (arith, piece_below c.args.n c.args.piece.now c.requires.stage.is _ pc.first, piece_below c.args.n c.args.piece.now c.requires.stage.is _ pc.second, c.min.ensures)
+    omega (arith, piece_below c.args.n c.args.piece.now c.requires.stage.is _ c.requires.parting.first, piece_below c.args.n c.args.piece.now c.requires.stage.is _ c.requires.parting.second, c.min.ensures)
 
 pub marks_with-requires-clause-second : goal.marks_with-requires-clause-second
 marks_with-requires-clause-second c =
-    let pc = rw c.in-Some.is at c.in_ok-parting.ensures.parting in
-    omega (arith, piece_below c.args.n c.args.piece.now c.requires.stage.is _ pc.first, piece_below c.args.n c.args.piece.now c.requires.stage.is _ pc.second, c.max.ensures)
+    omega (arith, piece_below c.args.n c.args.piece.now c.requires.stage.is _ c.requires.parting.first, piece_below c.args.n c.args.piece.now c.requires.stage.is _ c.requires.parting.second, c.max.ensures)
 
 pub marks_without-requires-clause-out : goal.marks_without-requires-clause-out
 marks_without-requires-clause-out c =
-    let pc = rw c.in-Some.is at c.in_ok-parting.ensures.parting in
-    rw c.deref-2.ensures.value (All-from_has (λ v. v < c.args.n) c.in-Some.parting.side.items (λ v h. piece_below c.args.n c.args.piece.now c.requires.stage.is v (without_two-in (has c.args.piece.now.nodes) _ _ v (pc.parted.inside v h))))
+    rw c.deref-2.ensures.value (All-from_has (λ v. v < c.args.n) c.args.parting.now.side.items (λ v h. piece_below c.args.n c.args.piece.now c.requires.stage.is v (without_two-in (has c.args.piece.now.nodes) _ _ v (c.requires.parting.parted.inside v h))))
 
 pub part-requires-2-clause-node : goal.part-requires-2-clause-node
 part-requires-2-clause-node c =
-    let pc = rw c.in-Some.is at c.in_ok-parting.ensures.parting in
-    omega (arith, piece_below c.args.n c.args.piece.now c.requires.stage.is _ pc.first, piece_below c.args.n c.args.piece.now c.requires.stage.is _ pc.second, c.max.ensures)
+    omega (arith, piece_below c.args.n c.args.piece.now c.requires.stage.is _ c.requires.parting.first, piece_below c.args.n c.args.piece.now c.requires.stage.is _ c.requires.parting.second, c.max.ensures)
 
-pub returns-clause-halved : goal.returns-clause-halved
-returns-clause-halved c =
-    let pc = rw c.in-Some.is at c.in_ok-parting.ensures.parting in
-    halved c.args.n c.args.piece.now (record { a = c.min.result; b = c.max.result }) c.in-Some.parting.side.items c.in_ok-near.near.items c.in_ok-far.far.items c.in_ok-left.left c.in_ok-right.right c.requires.stage
-    (side_of c.args.n c.args.piece.now c.in-Some.parting c.min.result c.max.result c.min.ensures c.max.ensures pc)
+pub returns : goal.returns
+returns c =
+    halved c.args.n c.args.piece.now (record { a = c.min.result; b = c.max.result }) c.args.parting.now.side.items c.in_ok-near.near.items c.in_ok-far.far.items c.in_ok-left.left c.in_ok-right.right c.requires.stage
+    (side_of c.args.n c.args.piece.now c.args.parting.now c.min.result c.max.result c.min.ensures c.max.ensures c.requires.parting)
     (rw c.deref.ensures.value at c.in_ok-near.ensures.marks) (rw (c.as_slice.ensures, c.deref-2.ensures.value) at c.in_ok-far.ensures.marks)
     (rw c.deref-3.ensures.value at c.in_ok-left.ensures) (rw c.deref-4.ensures.value at c.in_ok-right.ensures)

@@ -13,7 +13,7 @@ use crate::parts::is_parted;
 use crate::piece::Piece;
 use crate::thin::thin_ways;
 use std::alloc::Global;
-use three_conn::{Parting, probe};
+use three_conn::{Parting, Sought, probe};
 use tomo_base::{Graph, GraphFault, Link, NoMemory, Swept, marks_of, sweep};
 
 // Two nodes, and the two parts into which they cut a piece.
@@ -40,12 +40,7 @@ fn graph_of(alloc: Global, n: u32, piece: &Piece) -> Result<Graph, NoMemory>
 }
 
 // The last of the ways whose ends part the piece. It is taken away, and so are those behind it.
-fn next_way(
-    alloc: Global,
-    n: u32,
-    piece: &Piece,
-    ways: &mut Vec<Parting>,
-) -> Result<Option<Parting>, NoMemory>
+fn next_way(alloc: Global, n: u32, piece: &Piece, ways: &mut Vec<Parting>) -> Sought
     requires { IsStage n piece.now }
     ensures { IfOk result (λ o. IfSome o (IsPairCut n piece.now)) }
 {
@@ -92,12 +87,7 @@ fn is_long(alloc: Global, n: u32, piece: &Piece, ways: &[Parting]) -> Result<boo
 // Two nodes that part the piece, and one side: at the ends of a way of the list, or else of a thin way that the piece has now. In a long
 // piece without large ways, and where none parts it, the two are looked for around a node in the middle of the list. None where the piece is
 // three-connected.
-pub fn parting_of(
-    alloc: Global,
-    n: u32,
-    piece: &Piece,
-    ways: &mut Vec<Parting>,
-) -> Result<Option<Parting>, NoMemory>
+pub fn parting_of(alloc: Global, n: u32, piece: &Piece, ways: &mut Vec<Parting>) -> Sought
     requires stage { IsStage n piece.now }
     requires few { n ≤ graph_node_limit }
     requires four { 4 ≤ length piece.now.nodes }

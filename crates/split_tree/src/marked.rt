@@ -7,23 +7,10 @@ ghost use Rattle.split_tree.specs.Pieces.{IsPiece};
 ghost use Rattle.split_tree.specs.Parts.{is_inside, IsMarkedPart};
 
 use crate::piece::Piece;
+use blocks::marked_nodes;
 use sqlite_items::Items;
 use std::alloc::Global;
 use tomo_base::{Link, NoMemory};
-
-// The nodes that have a mark.
-fn marked_nodes(alloc: Global, nodes: &[u32], marks: &[bool]) -> Result<Vec<u32>, NoMemory>
-    requires { All (λ v. v < length marks.now) nodes.now }
-    ensures { IfOk result (λ kept. kept.items ≡ filter (mark_of marks.now) nodes.now) }
-{
-    let mut kept = Vec::new(alloc);
-    for &v in nodes {
-        if marks[v as usize] {
-            kept.push(v)?;
-        }
-    }
-    Ok(kept)
-}
 
 // The links between nodes that have a mark.
 pub fn marked_links(alloc: Global, links: &[Link], marks: &[bool]) -> Result<Vec<Link>, NoMemory>

@@ -1,7 +1,0 @@
-use Rattle.std.proofs.Common.{◌≡◌, take}
-use Rattle.std.specs.List.{filter}
-use Rattle.tomo_base.specs.Search.{mark_of}
-use Rattle.split_tree.proofs.marked.marked_nodes.Given as goal
-
-abbrev pub invariant-loop-v : goal.invariant-loop-v
-invariant-loop-v l = l.kept.items ≡ filter (mark_of l.marks) (take l.v-index l.nodes)

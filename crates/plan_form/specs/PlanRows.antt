@@ -126,3 +126,7 @@ row_count p =
 -- these rows were added at the end, and none is at hand
 abbrev pub AddsRows : RowList → RowList → List Row → Type 0
 AddsRows old new rows = (new.closed ≡ old.closed ++ rows) × (new.current ≡ [])
+
+-- a row for each item was added, each with its number from 0 on
+abbrev pub AddsEach : {A : Type 0} → (ℕ → A → Row) → List A → RowList → RowList → Type 0
+AddsEach row items old new = AddsRows old new (numbered row 0 items) × (length new.closed ≡ length old.closed + length items)

@@ -1,6 +1,6 @@
 // The parts of a network are told.
 ghost use Rattle.std.specs.Prelude.{ℕ, ◌≡◌, ◌≤◌, ◌<◌, ◌+◌, ◌^◌, [], length, map, IfOk, OnOk};
-ghost use Rattle.plan_form.specs.PlanRows.{AddsRows, node_row, numbered};
+ghost use Rattle.plan_form.specs.PlanRows.{AddsRows, AddsEach, node_row};
 ghost use Rattle.answers.specs.Components.{cut_row, block_row, three_row, AreHomes, TellsParts};
 
 use crate::answer::Answer;
@@ -8,7 +8,7 @@ use crate::parts::{all_three_blocks, homes};
 use crate::status::Status;
 use blocks::blocks;
 use itoa::Buffer;
-use plan_form::{add_counted, add_numbered, add_row, numbers_joined};
+use plan_form::{add_counted, add_list, add_numbered, add_row, numbers_joined};
 use rows::Rows;
 use std::alloc::Global;
 use tomo_base::{NoMemory, NodeSets};
@@ -18,8 +18,7 @@ use topology::Topology;
 fn add_nodes(rows: &mut Rows, topology: &Topology) -> Result<(), NoMemory>
     requires none { rows.old.current ≡ [] }
     requires room { length rows.old.closed + length topology.now.names < 2 ^ 32 }
-    ensures rows { OnOk result (AddsRows rows.old rows.new (numbered node_row 0 topology.now.names)) }
-    ensures count { OnOk result (length rows.new.closed ≡ length rows.old.closed + length topology.now.names) }
+    ensures { OnOk result (AddsEach node_row topology.now.names rows.old rows.new) }
 {
     for v in 0..topology.graph().nodes() {
         add_numbered(rows, "node", v, topology.name(v).as_bytes())?;
@@ -45,13 +44,10 @@ fn add_cuts(rows: &mut Rows, cuts: &[u32]) -> Result<(), NoMemory>
 fn add_blocks(rows: &mut Rows, blocks: &NodeSets, text: &mut Vec<u8>) -> Result<(), NoMemory>
     requires none { rows.old.current ≡ [] }
     requires room { length rows.old.closed + length blocks.now < 2 ^ 32 }
-    ensures rows { OnOk result (AddsRows rows.old rows.new (numbered block_row 0 blocks.now)) }
-    ensures count { OnOk result (length rows.new.closed ≡ length rows.old.closed + length blocks.now) }
+    ensures { OnOk result (AddsEach block_row blocks.now rows.old rows.new) }
 {
     for i in 0..blocks.len() {
-        text.clear();
-        numbers_joined(blocks.at(i).as_slice(), text)?;
-        add_numbered(rows, "block", i, text)?;
+        add_list(rows, "block", i, blocks.at(i).as_slice(), text)?;
     }
     Ok(())
 }
@@ -66,8 +62,7 @@ fn add_three_blocks(
     requires none { rows.old.current ≡ [] }
     requires homes { length homes.now ≡ length sets.now }
     requires room { length rows.old.closed + length sets.now < 2 ^ 32 }
-    ensures rows { OnOk result (AddsRows rows.old rows.new (numbered (three_row homes.now) 0 sets.now)) }
-    ensures count { OnOk result (length rows.new.closed ≡ length rows.old.closed + length sets.now) }
+    ensures { OnOk result (AddsEach (three_row homes.now) sets.now rows.old rows.new) }
 {
     for i in 0..sets.len() {
         text.clear();

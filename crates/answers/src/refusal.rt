@@ -101,20 +101,38 @@ pub fn refuse_plan(alloc: Global, word: &str, fault: PlanFault) -> Result<Rows, 
     }
 }
 
+// Why a plan with a fault is refused: the part that has it.
+fn reason_of(fault: Fault) -> &'static str
+    ensures { result.now ≡ check_reason fault }
+{
+    match fault {
+        Fault::Names(_) => "check-names",
+        Fault::Links(_) => "check-links",
+        Fault::Must(_) => "check-must",
+        Fault::Not(_) => "check-not",
+        Fault::Monitor(_) => "check-monitor",
+        Fault::Pocket(_) => "check-pocket",
+        Fault::Path(_) => "check-path",
+        Fault::Recipe(_) => "check-recipe",
+    }
+}
+
+// The number of the item that has the fault.
+fn number_of(fault: Fault) -> u32
+    ensures { result ≡ fault_number fault }
+{
+    match fault {
+        Fault::Names(number) | Fault::Links(number) => number,
+        Fault::Must(number) | Fault::Not(number) | Fault::Monitor(number) => number,
+        Fault::Pocket(number) | Fault::Path(number) | Fault::Recipe(number) => number,
+    }
+}
+
 /// The row that refuses a plan with a fault.
 pub fn refuse_fault(alloc: Global, word: &str, fault: Fault) -> Result<Rows, NoMemory>
     ensures { IfOk result (λ refusal. refusal ≡ refused word.now (check_reason fault) (decimal (fault_number fault))) }
 {
-    match fault {
-        Fault::Names(name) => refuse_at(alloc, word, "check-names", u64::from(name)),
-        Fault::Links(link) => refuse_at(alloc, word, "check-links", u64::from(link)),
-        Fault::Must(forced) => refuse_at(alloc, word, "check-must", u64::from(forced)),
-        Fault::Not(barred) => refuse_at(alloc, word, "check-not", u64::from(barred)),
-        Fault::Monitor(monitor) => refuse_at(alloc, word, "check-monitor", u64::from(monitor)),
-        Fault::Pocket(pocket) => refuse_at(alloc, word, "check-pocket", u64::from(pocket)),
-        Fault::Path(path) => refuse_at(alloc, word, "check-path", u64::from(path)),
-        Fault::Recipe(recipe) => refuse_at(alloc, word, "check-recipe", u64::from(recipe)),
-    }
+    refuse_at(alloc, word, reason_of(fault), u64::from(number_of(fault)))
 }
 
 /// The row that refuses rounds.

@@ -17,15 +17,11 @@ use simple_path::{PathPool, Recipe};
 use std::alloc::Global;
 use tomo_base::{Graph, NoMemory, NodeSet};
 
+// The recipe over the paths that were added, or want of memory.
+type Added = Result<Recipe, NoMemory>;
+
 // A link from v, which is no monitor, to the monitor w: the paths over it and on along two ways from v, less the path along both ways.
-fn to_monitor(
-    alloc: Global,
-    g: &Graph,
-    m: &NodeSet,
-    v: u32,
-    w: u32,
-    pool: &mut PathPool,
-) -> Result<Recipe, NoMemory>
+fn to_monitor(alloc: Global, g: &Graph, m: &NodeSet, v: u32, w: u32, pool: &mut PathPool) -> Added
     requires link { IsPlainLink g.now m.now v w }
     requires monitor { IsTrue (has m.now w) }
     requires few { length pool.old + 3 < 2 ^ 31 }
@@ -46,7 +42,7 @@ fn between_others(
     v: u32,
     w: u32,
     pool: &mut PathPool,
-) -> Result<Recipe, NoMemory>
+) -> Added
     requires link { IsPlainLink g.now m.now v w }
     requires plain_neighbour { has m.now w ≡ false }
     requires few { length pool.old + 4 < 2 ^ 31 }
@@ -66,14 +62,7 @@ fn between_others(
 }
 
 // The recipe of a link between v and w.
-fn between(
-    alloc: Global,
-    g: &Graph,
-    m: &NodeSet,
-    v: u32,
-    w: u32,
-    pool: &mut PathPool,
-) -> Result<Recipe, NoMemory>
+fn between(alloc: Global, g: &Graph, m: &NodeSet, v: u32, w: u32, pool: &mut PathPool) -> Added
     requires graph { IsGraph g.now }
     requires linked { IsTrue (linked g.now v w) }
     requires none { NoBadPart g.now (has m.now) }

@@ -1,5 +1,5 @@
 -- The search for an ear, turn by turn: a candidate, the part of the third node that it leaves, and a better candidate.
-use Rattle.std.specs.Prelude.{ℕ, ◌≡◌, ◌≢◌, ◌-◌, ◌<◌, ◌≤◌, ◌⊎◌, Bool, true, false, not, ◌&&◌, ◌==◌, leb, List, length, reverse}
+use Rattle.std.specs.Prelude.{ℕ, ◌≡◌, ◌≢◌, ◌-◌, ◌<◌, ◌≤◌, ◌⊎◌, Bool, true, false, not, ◌&&◌, ◌==◌, leb, List, length, reverse, Option, IfSome, IfNone}
 use Rattle.tomo_base.specs.Network.{Network, linked}
 use Rattle.tomo_base.specs.Sets.{has, any_below, touches, outside, complement}
 use Rattle.tomo_base.specs.Walks.{IsConnectedIn}
@@ -79,9 +79,24 @@ pub record IsTurn (g : Network) (old : ℕ → Bool) (ear : List ℕ) (K R C : �
 abbrev pub InSomeTurn : Network → (ℕ → Bool) → List ℕ → (ℕ → Bool) → Type 0
 InSomeTurn g old ear K = (R : ℕ → Bool) × (C : ℕ → Bool) × (u : ℕ) × IsTurn g old ear K R C u
 
+-- a three-connected graph, a mark for each of its nodes, of the old ones and of those of a part, and two old nodes or more
+pub record IsSetting (g : Network) (old part : List Bool) : Type 0 where
+  pub three : IsThreeConnected g
+  pub marks : length part ≡ g.nodes
+  pub size : length old ≡ g.nodes
+  pub two : HasTwo (mark_of old)
+
 -- a place of the ear, between its ends, whose node is an outside neighbour of K
 abbrev pub IsSpot : Network → (ℕ → Bool) → List ℕ → ℕ → Type 0
 IsSpot g K ear i = (1 ≤ i) × (i < length ear - 1) × (outside g K (entry_at ear i) ≡ true)
+
+-- the first place of this kind, or none where there is none
+abbrev pub IsFirstPlace : (ℕ → Type 0) → Option ℕ → Type 0
+IsFirstPlace P place = IfSome place (λ i. P i × ((j : ℕ) → P j → i ≤ j)) × IfNone place ((j : ℕ) → P j → ⊥)
+
+-- the last place of this kind, or none where there is none
+abbrev pub IsLastPlace : (ℕ → Type 0) → Option ℕ → Type 0
+IsLastPlace P place = IfSome place (λ i. P i × ((j : ℕ) → P j → j ≤ i)) × IfNone place ((j : ℕ) → P j → ⊥)
 
 -- the list, or the list turned round
 abbrev pub IsEither : List ℕ → List ℕ → Type 0

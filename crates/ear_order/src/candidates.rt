@@ -1,10 +1,9 @@
 // Candidates for the next ear: the first, and a better one.
 ghost use Rattle.std.specs.Prelude.{◌≡◌, ◌≢◌, ◌+◌, ◌-◌, ◌<◌, ◌≤◌, ℕ, Bool, true, false, length, IfOk, IfSome, IfNone};
-ghost use Rattle.tomo_base.specs.Cuts.{IsThreeConnected};
 ghost use Rattle.tomo_base.specs.Sets.{outside};
 ghost use Rattle.tomo_base.specs.Search.{mark_of, entry_at};
 ghost use Rattle.ear_order.specs.Ears.{IsEar, IsLast};
-ghost use Rattle.ear_order.specs.Turns.{between, HasTwo, IsLeft, AreLeft, IsTurn, InSomeTurn, IsBetter, IsSpot, IsEither, Zone, Touches, IsFreePart};
+ghost use Rattle.ear_order.specs.Turns.{between, IsSetting, IsLeft, AreLeft, IsTurn, InSomeTurn, IsBetter, IsSpot, IsFirstPlace, IsLastPlace, IsEither, Zone, Touches, IsFreePart};
 
 use crate::marks::mark;
 use crate::near::{first_near, near};
@@ -71,9 +70,7 @@ fn first_spot(g: &Graph, ear: &[u32], part: &[bool]) -> Option<usize>
     requires nodes { (k : ℕ) → k < length ear.now → entry_at ear.now k < g.now.nodes }
     requires marks { length part.now ≡ g.now.nodes }
     requires some { 1 ≤ length ear.now }
-    ensures spot { IfSome result (λ i. IsSpot g.now (mark_of part.now) ear.now i) }
-    ensures first { IfSome result (λ i. (j : ℕ) → IsSpot g.now (mark_of part.now) ear.now j → i ≤ j) }
-    ensures none { IfNone result ((j : ℕ) → IsSpot g.now (mark_of part.now) ear.now j → false ≡ true) }
+    ensures { IsFirstPlace (IsSpot g.now (mark_of part.now) ear.now) result }
 {
     let last = ear.len() - 1;
     for i in 1..last {
@@ -89,9 +86,7 @@ fn last_spot(g: &Graph, ear: &[u32], part: &[bool]) -> Option<usize>
     requires nodes { (k : ℕ) → k < length ear.now → entry_at ear.now k < g.now.nodes }
     requires marks { length part.now ≡ g.now.nodes }
     requires some { 1 ≤ length ear.now }
-    ensures spot { IfSome result (λ i. IsSpot g.now (mark_of part.now) ear.now i) }
-    ensures last { IfSome result (λ i. (j : ℕ) → IsSpot g.now (mark_of part.now) ear.now j → j ≤ i) }
-    ensures none { IfNone result ((j : ℕ) → IsSpot g.now (mark_of part.now) ear.now j → false ≡ true) }
+    ensures { IsLastPlace (IsSpot g.now (mark_of part.now) ear.now) result }
 {
     let mut place = ear.len() - 1;
     while 1 < place {
@@ -147,10 +142,7 @@ fn to_end(
     ear: Vec<u32>,
     d: u32,
 ) -> Result<Vec<u32>, NoMemory>
-    requires three { IsThreeConnected g.now }
-    requires marks { length part.now ≡ g.now.nodes }
-    requires size { length old.now ≡ g.now.nodes }
-    requires two { HasTwo (mark_of old.now) }
+    requires setting { IsSetting g.now old.now part.now }
     requires ear { IsEar g.now (mark_of old.now) ear.items }
     requires turn { InSomeTurn g.now (mark_of old.now) ear.items (mark_of part.now) }
     requires old { mark_of old.now d ≡ true }
@@ -175,10 +167,7 @@ fn around(
     part: &[bool],
     ear: &[u32],
 ) -> Result<Vec<u32>, NoMemory>
-    requires three { IsThreeConnected g.now }
-    requires marks { length part.now ≡ g.now.nodes }
-    requires size { length old.now ≡ g.now.nodes }
-    requires two { HasTwo (mark_of old.now) }
+    requires setting { IsSetting g.now old.now part.now }
     requires ear { IsEar g.now (mark_of old.now) ear.now }
     requires turn { InSomeTurn g.now (mark_of old.now) ear.now (mark_of part.now) }
     requires none { (w : ℕ) → mark_of old.now w ≡ true → Touches g.now (mark_of part.now) w → false ≡ true }
@@ -203,10 +192,7 @@ pub fn better(
     part: &Part,
     ear: Vec<u32>,
 ) -> Result<Vec<u32>, NoMemory>
-    requires three { IsThreeConnected g.now }
-    requires marks { length part.now.inside.items ≡ g.now.nodes }
-    requires size { length old.now ≡ g.now.nodes }
-    requires two { HasTwo (mark_of old.now) }
+    requires setting { IsSetting g.now old.now part.now.inside.items }
     requires ear { IsEar g.now (mark_of old.now) ear.items }
     requires turn { InSomeTurn g.now (mark_of old.now) ear.items (mark_of part.now.inside.items) }
     requires order { (free : ℕ → Bool) × (x : ℕ) × IsFreePart g.now free x part.now.order.items (mark_of part.now.inside.items) }

@@ -89,7 +89,7 @@ formed_with k p xs part w is = told_formed (with_told k p xs) (λ j other. elim 
 
 module _ {T : Type 0} (k : Kind) (row : Row) (answer : Result T PlanFault) where
   -- where there was room, there are not too many items after one was added
-  pub few_after : (n : ℕ) (old new : List (Item k)) → length old + 1 < n → OnOk answer (AddsItem k row old new) → OnOk answer (length new < n)
+  few_after : (n : ℕ) (old new : List (Item k)) → length old + 1 < n → OnOk answer (AddsItem k row old new) → OnOk answer (length new < n)
   few_after n old new room = by answer
     where
       by : (a : Result T PlanFault) → OnOk a (AddsItem k row old new) → OnOk a (length new < n)
@@ -103,6 +103,11 @@ module _ {T : Type 0} (k : Kind) (row : Row) (answer : Result T PlanFault) where
       by : (a : Result T PlanFault) → OnOk a (AddsItem k row (told_items p k) xs) → OnOk a (length xs < room_for k) → OnErr a (xs ≡ told_items p k) → IsWellFormed (with_told k p xs)
       by (Ok x) adds few kept = formed_with k p xs part w (subst (All (IsItem k)) (sym adds.more) (All-push (IsItem k) (told_items p k) adds.item (formed_told p w k part).0 adds.fits), λ _. few)
       by (Err f) adds few kept = formed_with k p xs part w (subst (IsToldList k) (sym kept) (formed_told p w k part))
+
+  -- so where there was room for one item more
+  pub formed_more : IsPart k → room_for k ≡ 2 ^ 32 → (p : PlanParts) (xs : List (Item k)) → IsWellFormed p → length (told_items p k) + 1 < 2 ^ 32
+      → OnOk answer (AddsItem k row (told_items p k) xs) → OnErr answer (xs ≡ told_items p k) → IsWellFormed (with_told k p xs)
+  formed_more part plain p xs w room adds = formed_after part p xs w adds (few_after (room_for k) (told_items p k) xs (omega (arith, plain, room)) adds)
 
   -- the plan takes the row of the item that was added
   pub takes_after : IsPart k → (p : PlanParts) (xs : List (Item k)) → OnOk answer (AddsItem k row (told_items p k) xs) → OnOk answer (TakesItem k row p (with_told k p xs))

@@ -1,5 +1,5 @@
 -- The rows of a plan: one row for each item, in the order of the table, each spelled in one way.
-use Rattle.std.specs.Prelude.{ℕ, ◌≡◌, ◌+◌, ◌⊎◌, List, [], ◌∷◌, ◌++◌, flat_map, length, decimal, codes, ⊤}
+use Rattle.std.specs.Prelude.{ℕ, ◌≡◌, ◌<◌, ◌+◌, ◌^◌, ◌⊎◌, List, [], ◌∷◌, ◌++◌, flat_map, length, decimal, codes, ⊤}
 use Rattle.tomo_base.specs.declared.graph.Link.{Link}
 use Rattle.simple_path.specs.declared.recipe.Term.{Term}
 use Rattle.rows.specs.Rows.{Row, RowList}
@@ -126,3 +126,11 @@ row_count p =
 -- these rows were added at the end, and none is at hand
 abbrev pub AddsRows : RowList → RowList → List Row → Type 0
 AddsRows old new rows = (new.closed ≡ old.closed ++ rows) × (new.current ≡ [])
+
+-- no field is at hand, and there is room for so many rows more
+abbrev pub HasRoom : RowList → ℕ → Type 0
+HasRoom rows n = (rows.current ≡ []) × (length rows.closed + n < 2 ^ 32)
+
+-- a row for each item was added, each with its number from 0 on
+abbrev pub AddsEach : {A : Type 0} → (ℕ → A → Row) → List A → RowList → RowList → Type 0
+AddsEach row items old new = AddsRows old new (numbered row 0 items) × (length new.closed ≡ length old.closed + length items)

@@ -22,4 +22,4 @@ pub use faults::PlanFault;
 pub use numerals::number;
 pub use plan::Plan;
 pub use read::read_plan;
-pub use write::{add_counted, add_numbered, add_row, numbers_joined, plan_rows};
+pub use write::{add_counted, add_list, add_numbered, add_row, numbers_joined, plan_rows};

@@ -2,7 +2,7 @@
 ghost use Rattle.std.specs.Prelude.{◌≡◌, ◌+◌, ◌<◌, ◌^◌, ◌++◌, [], ◌∷◌, IfOk, OnOk, length, map, decimal};
 ghost use Rattle.plan_form.specs.Spelling.{numbers_text, term_text, terms_text};
 ghost use Rattle.plan_form.specs.Held.{part_of};
-ghost use Rattle.plan_form.specs.PlanRows.{AddsRows, node_row, link_row, pocket_row, path_row, recipe_row, numbered, row_count, plan_rows as rows_of_plan};
+ghost use Rattle.plan_form.specs.PlanRows.{AddsRows, AddsEach, HasRoom, node_row, link_row, pocket_row, path_row, recipe_row, row_count, plan_rows as rows_of_plan};
 
 use crate::kinds::NEWEST_FORMAT;
 use crate::plan::{HeldPocket, Plan};
@@ -77,6 +77,24 @@ pub fn add_numbered(rows: &mut Rows, word: &str, i: u32, rest: &[u8]) -> Result<
     add_row(rows, &[word.as_bytes(), number.format(i).as_bytes(), rest])
 }
 
+/// Adds a row of a kind with its number and a list of numbers; `text` is room for the list. After want of memory the rows may have a
+/// part of it.
+pub fn add_list(
+    rows: &mut Rows,
+    word: &str,
+    i: u32,
+    numbers: &[u32],
+    text: &mut Vec<u8>,
+) -> Result<(), NoMemory>
+    requires none { rows.old.current ≡ [] }
+    requires room { length rows.old.closed + 1 < 2 ^ 32 }
+    ensures { OnOk result (AddsRows rows.old rows.new ((word.now ∷ decimal i ∷ numbers_text numbers.now ∷ []) ∷ [])) }
+{
+    text.clear();
+    numbers_joined(numbers, text)?;
+    add_numbered(rows, word, i, text)
+}
+
 /// Adds a row of a kind with its number, a further number, and one more field. After want of memory the rows may have a part of it.
 pub fn add_counted(
     rows: &mut Rows,
@@ -104,10 +122,8 @@ pub fn add_counted(
 
 // Adds a row for each name.
 fn add_names(rows: &mut Rows, names: &Words) -> Result<(), NoMemory>
-    requires none { rows.old.current ≡ [] }
-    requires room { length rows.old.closed + length names.now < 2 ^ 32 }
-    ensures rows { OnOk result (AddsRows rows.old rows.new (numbered node_row 0 names.now)) }
-    ensures count { OnOk result (length rows.new.closed ≡ length rows.old.closed + length names.now) }
+    requires { HasRoom rows.old (length names.now) }
+    ensures { OnOk result (AddsEach node_row names.now rows.old rows.new) }
 {
     for i in 0..names.len() {
         add_numbered(rows, "node", i, names.at(i).as_bytes())?;
@@ -117,10 +133,8 @@ fn add_names(rows: &mut Rows, names: &Words) -> Result<(), NoMemory>
 
 // Adds a row for each link.
 fn add_links(rows: &mut Rows, links: &[Link]) -> Result<(), NoMemory>
-    requires none { rows.old.current ≡ [] }
-    requires room { length rows.old.closed + length links.now < 2 ^ 32 }
-    ensures rows { OnOk result (AddsRows rows.old rows.new (numbered link_row 0 links.now)) }
-    ensures count { OnOk result (length rows.new.closed ≡ length rows.old.closed + length links.now) }
+    requires { HasRoom rows.old (length links.now) }
+    ensures { OnOk result (AddsEach link_row links.now rows.old rows.new) }
 {
     for (i, link) in links.iter().enumerate() {
         let mut end = Buffer::new();
@@ -137,10 +151,8 @@ fn add_links(rows: &mut Rows, links: &[Link]) -> Result<(), NoMemory>
 
 // Adds a row of the word for each node.
 fn add_nodes(rows: &mut Rows, word: &str, nodes: &[u32]) -> Result<(), NoMemory>
-    requires none { rows.old.current ≡ [] }
-    requires room { length rows.old.closed + length nodes.now < 2 ^ 32 }
-    ensures rows { OnOk result (AddsRows rows.old rows.new (numbered (λ _ v. word.now ∷ decimal v ∷ []) 0 nodes.now)) }
-    ensures count { OnOk result (length rows.new.closed ≡ length rows.old.closed + length nodes.now) }
+    requires { HasRoom rows.old (length nodes.now) }
+    ensures { OnOk result (AddsEach (λ _ v. word.now ∷ decimal v ∷ []) nodes.now rows.old rows.new) }
 {
     for v in nodes {
         let mut node = Buffer::new();
@@ -151,10 +163,8 @@ fn add_nodes(rows: &mut Rows, word: &str, nodes: &[u32]) -> Result<(), NoMemory>
 
 // Adds a row for each pocket; `text` is room for the nodes.
 fn add_pockets(rows: &mut Rows, pockets: &[HeldPocket], text: &mut Vec<u8>) -> Result<(), NoMemory>
-    requires none { rows.old.current ≡ [] }
-    requires room { length rows.old.closed + length pockets.now < 2 ^ 32 }
-    ensures rows { OnOk result (AddsRows rows.old rows.new (numbered pocket_row 0 (map part_of pockets.now))) }
-    ensures count { OnOk result (length rows.new.closed ≡ length rows.old.closed + length pockets.now) }
+    requires { HasRoom rows.old (length pockets.now) }
+    ensures { OnOk result (AddsEach pocket_row (map part_of pockets.now) rows.old rows.new) }
 {
     for (i, pocket) in pockets.iter().enumerate() {
         text.clear();
@@ -166,25 +176,19 @@ fn add_pockets(rows: &mut Rows, pockets: &[HeldPocket], text: &mut Vec<u8>) -> R
 
 // Adds a row for each path; `text` is room for the nodes.
 fn add_paths(rows: &mut Rows, paths: &PathPool, text: &mut Vec<u8>) -> Result<(), NoMemory>
-    requires none { rows.old.current ≡ [] }
-    requires room { length rows.old.closed + length paths.now < 2 ^ 32 }
-    ensures rows { OnOk result (AddsRows rows.old rows.new (numbered path_row 0 paths.now)) }
-    ensures count { OnOk result (length rows.new.closed ≡ length rows.old.closed + length paths.now) }
+    requires { HasRoom rows.old (length paths.now) }
+    ensures { OnOk result (AddsEach path_row paths.now rows.old rows.new) }
 {
     for i in 0..paths.len() {
-        text.clear();
-        numbers_joined(paths.path(i), text)?;
-        add_numbered(rows, "path", i, text)?;
+        add_list(rows, "path", i, paths.path(i), text)?;
     }
     Ok(())
 }
 
 // Adds a row for each recipe; `text` is room for the terms.
 fn add_recipes(rows: &mut Rows, recipes: &Recipes, text: &mut Vec<u8>) -> Result<(), NoMemory>
-    requires none { rows.old.current ≡ [] }
-    requires room { length rows.old.closed + length recipes.now < 2 ^ 32 }
-    ensures rows { OnOk result (AddsRows rows.old rows.new (numbered recipe_row 0 recipes.now)) }
-    ensures count { OnOk result (length rows.new.closed ≡ length rows.old.closed + length recipes.now) }
+    requires { HasRoom rows.old (length recipes.now) }
+    ensures { OnOk result (AddsEach recipe_row recipes.now rows.old rows.new) }
 {
     for i in 0..recipes.len() {
         text.clear();

@@ -28,7 +28,7 @@ few_rows : (c : After-list-3) → (length c.new-rows.result.closed ≡ 0) × (le
 few_rows c cuts =
     let topo = c.graph-g.ensures.topology in
     let nodes = ap (λ (g : Network). g.nodes) c.graph-g.ensures.graph in (
-      omega (arith, cuts.0, cuts.1, topo.one_each, topo.few_nodes, c.in_ok-add_nodes.ensures.count, c.in_ok-add_cuts.ensures.count),
+      omega (arith, cuts.0, cuts.1, topo.one_each, topo.few_nodes, c.in_ok-add_nodes.ensures.1, c.in_ok-add_cuts.ensures.count),
       rw c.list-3.ensures (omega (arith, nodes, topo.few_nodes, c.in_ok-parts.ensures.few)),
       omega (arith, topo.few_nodes),
     )
@@ -37,7 +37,7 @@ pub add_cuts-requires-clause-room : goal.add_cuts-requires-clause-room
 add_cuts-requires-clause-room c =
     let topo = c.graph-g.ensures.topology in
     let cuts = few_cuts (goal.at.add_cuts-requires-clause-room c).After-as_slice in
-    omega (arith, cuts.0, cuts.1, topo.one_each, topo.few_nodes, c.in_ok-add_nodes.ensures.count)
+    omega (arith, cuts.0, cuts.1, topo.one_each, topo.few_nodes, c.in_ok-add_nodes.ensures.1)
 
 pub add_blocks-requires-clause-room : goal.add_blocks-requires-clause-room
 add_blocks-requires-clause-room c =
@@ -50,14 +50,14 @@ add_three_blocks-requires-clause-room c =
     let here = goal.at.add_three_blocks-requires-clause-room c in
     let few = few_rows here.After-list-3 (few_cuts here.After-as_slice) in
     let nodes = ap (λ (g : Network). g.nodes) c.graph-g.ensures.graph in
-    omega (arith, few.0, few.1, few.2, nodes, c.in_ok-three_blocks.ensures.few, c.in_ok-add_blocks.ensures.count)
+    omega (arith, few.0, few.1, few.2, nodes, c.in_ok-three_blocks.ensures.few, c.in_ok-add_blocks.ensures.1)
 
 pub add_row-requires-clause-room : goal.add_row-requires-clause-room
 add_row-requires-clause-room c =
     let here = goal.at.add_row-requires-clause-room c in
     let few = few_rows here.After-list-3 (few_cuts here.After-as_slice) in
     let nodes = ap (λ (g : Network). g.nodes) c.graph-g.ensures.graph in
-    omega (arith, few.0, few.1, few.2, nodes, c.in_ok-three_blocks.ensures.few, c.in_ok-add_blocks.ensures.count, c.in_ok-add_three_blocks.ensures.count)
+    omega (arith, few.0, few.1, few.2, nodes, c.in_ok-three_blocks.ensures.few, c.in_ok-add_blocks.ensures.1, c.in_ok-add_three_blocks.ensures.1)
 
 pub returns : goal.returns
 returns c =
@@ -75,6 +75,6 @@ returns c =
       subst (λ g. ArePartsOf g p) c.graph-g.ensures.graph parts,
       added_four c.new-rows.result c.add_nodes.new.rows c.add_cuts.new.rows c.add_blocks.new.rows c.add_three_blocks.new.rows c.add_row.new.rows
           (numbered node_row 0 c.args.topology.now.names) (map cut_row b.cuts) (numbered block_row 0 b.list) (numbered (three_row p.homes) 0 p.three_blocks) end_row
-          c.new-rows.ensures c.in_ok-add_nodes.ensures.rows (rw (c.as_slice.ensures.nodes, c.cuts.ensures) at c.in_ok-add_cuts.ensures.rows) (rw c.list-3.ensures at c.in_ok-add_blocks.ensures.rows)
-          (rw c.deref.ensures.value at c.in_ok-add_three_blocks.ensures.rows) (rw c.as_bytes.ensures.value at c.in_ok-add_row.ensures.rows),
+          c.new-rows.ensures c.in_ok-add_nodes.ensures.0 (rw (c.as_slice.ensures.nodes, c.cuts.ensures) at c.in_ok-add_cuts.ensures.rows) (rw c.list-3.ensures at c.in_ok-add_blocks.ensures.0)
+          (rw c.deref.ensures.value at c.in_ok-add_three_blocks.ensures.0) (rw c.as_bytes.ensures.value at c.in_ok-add_row.ensures.rows),
     )

@@ -6,7 +6,7 @@ use Rattle.plan_form.proofs.Numbering.{added_none, added_more}
 use Rattle.plan_form.proofs.write.add_pockets.Goals as goal
 
 pub loop-i-init : goal.loop-i-init
-loop-i-init c = added_none pocket_row (map part_of c.args.pockets.now) c.args.rows.now c.requires.none
+loop-i-init c = added_none pocket_row (map part_of c.args.pockets.now) c.args.rows.now c.requires.0
 
 pub loop-i-preserved : goal.loop-i-preserved
 loop-i-preserved c = added_more pocket_row (map part_of c.args.pockets.now) c.args.rows.now c.loop-i.rows c.add_counted.new.rows c.loop-i.i (record { need = 0; nodes = [] }) (rw length-map c.loop-i-test.true) c.loop-i.invariant

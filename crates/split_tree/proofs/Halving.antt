@@ -1,12 +1,14 @@
 -- A piece that two nodes cut into two parts, by closed sets.
-use Rattle.std.proofs.Common.{◌≡◌, ℕ, ◌⊎◌, Bool, true, false, ◌&&◌, ◌||◌, ◌==◌, List, length, IsTrue, refl, sym, ◌∙◌, inl, inr, arith}
+use Rattle.std.proofs.Common.{◌≡◌, ℕ, ◌≤◌, ◌⊎◌, Bool, true, false, ◌&&◌, ◌||◌, ◌==◌, List, length, IsTrue, refl, sym, ◌∙◌, inl, inr, arith}
 use Rattle.std.proofs.lemmas.Bool.{cases_eq, both_ways, and_parts, and_from, or_cases, or_left, or_right, eqb-true, false_from_ne_true}
 use Rattle.tomo_base.specs.declared.graph.Link.{Link}
+use Rattle.tomo_base.specs.Limits.{graph_node_limit}
 use Rattle.tomo_base.specs.Network.{joins, any_joins, linked}
 use Rattle.tomo_base.specs.Sets.{has, count}
 use Rattle.tomo_base.specs.SetLists.{IsSetBelow}
 use Rattle.tomo_base.proofs.Entering.{joins_its_ends}
 use Rattle.tomo_base.proofs.Links.{joins_gives}
+use Rattle.tomo_base.proofs.Counts.{count-le}
 use Rattle.tomo_base.proofs.Members.{count-has}
 use Rattle.tomo_base.specs.Parting.{without_two}
 use Rattle.tomo_base.proofs.Parting.{without_two-from, without_two-in, without_two-ne}
@@ -19,6 +21,10 @@ use Rattle.split_tree.proofs.Sound.{Half}
 -- the set of an ascending list has as many nodes as the list
 pub size_of : (n : ℕ) (xs : List ℕ) → IsSetBelow n xs → count n (has xs) ≡ length xs
 size_of n xs is = count-has n xs is.ascending is.below
+
+-- a piece has no more nodes than a graph may have
+pub few_nodes : (n : ℕ) (p : Piece) → IsPiece n p → n ≤ graph_node_limit → length p.nodes ≤ graph_node_limit
+few_nodes n p is few = omega (arith, count-le n (has p.nodes), size_of n p.nodes is.set, few)
 
 -- the inner nodes of a part
 abbrev pub inner : Piece → Link → ℕ → Bool

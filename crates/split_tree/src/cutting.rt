@@ -7,14 +7,14 @@ ghost use Rattle.split_tree.specs.Pieces.{net};
 ghost use Rattle.split_tree.specs.Stages.{IsStage, IsHalved, IsPairCut};
 
 use crate::complete::is_complete;
+use crate::guesses::guesses;
 use crate::marked::part;
 use crate::marks::{marks_with, marks_without};
 use crate::parts::is_parted;
 use crate::piece::Piece;
-use crate::thin::thin_ways;
 use std::alloc::Global;
 use three_conn::{Parting, Sought, probe};
-use tomo_base::{Graph, GraphFault, Link, NoMemory, Swept, marks_of, sweep};
+use tomo_base::{Graph, GraphFault, Link, NoMemory, marks_of};
 
 // Two nodes, and the two parts into which they cut a piece.
 #[derive(Drop)]
@@ -52,41 +52,8 @@ fn next_way(alloc: Global, n: u32, piece: &Piece, ways: &mut Vec<Parting>) -> So
     Ok(None)
 }
 
-// Whether more than so many steps lead from the root to the node that the search found last.
-fn is_deep(found: &Swept, root: u32, steps: usize) -> bool {
-    let mut v = found.order.last().copied().unwrap_or(root);
-    for _ in 0..steps {
-        if v == root {
-            return false;
-        }
-        v = found.parent.get(v as usize).copied().unwrap_or(root);
-    }
-    v != root
-}
-
-// A piece of so few nodes is cut at its ways however long it is.
-const FEW: usize = 64;
-
-// Whether the piece is long, with fewer links to a step than 16, and no way has an eighth of its nodes: it is better cut in its middle.
-fn is_long(alloc: Global, n: u32, piece: &Piece, ways: &[Parting]) -> Result<bool, NoMemory>
-    requires stage { IsStage n piece.now }
-    requires few { n ≤ graph_node_limit }
-    requires some { 1 ≤ length piece.now.nodes }
-{
-    let nodes = piece.nodes.as_slice();
-    let least = nodes.len() / 8;
-    if nodes.len() <= FEW || ways.iter().any(|way| way.side.len() >= least) {
-        return Ok(false);
-    }
-    let g = graph_of(alloc, n, piece)?;
-    let marks = marks_of(alloc, n, nodes)?;
-    let found = sweep(alloc, &g, &marks, &[nodes[0]])?;
-    Ok(is_deep(&found, nodes[0], piece.links.len() / 16))
-}
-
-// Two nodes that part the piece, and one side: at the ends of a way of the list, or else of a thin way that the piece has now. In a long
-// piece without large ways, and where none parts it, the two are looked for around a node in the middle of the list. None where the piece is
-// three-connected.
+// Two nodes that part the piece, and one side: by a guess of the list, or else by one that is made now, or by a search around a node in the
+// middle of the list. None where the piece is three-connected.
 pub fn parting_of(alloc: Global, n: u32, piece: &Piece, ways: &mut Vec<Parting>) -> Sought
     requires stage { IsStage n piece.now }
     requires few { n ≤ graph_node_limit }
@@ -100,14 +67,11 @@ pub fn parting_of(alloc: Global, n: u32, piece: &Piece, ways: &mut Vec<Parting>)
     if let Some(way) = next_way(alloc, n, piece, ways)? {
         return Ok(Some(way));
     }
-    let nodes = piece.nodes.as_slice();
-    *ways = thin_ways(alloc, n, nodes, piece.links.as_slice())?;
-    if !ways.is_empty() && is_long(alloc, n, piece, ways)? {
-        ways.clear();
-    }
+    *ways = guesses(alloc, n, piece)?;
     if let Some(way) = next_way(alloc, n, piece, ways)? {
         return Ok(Some(way));
     }
+    let nodes = piece.nodes.as_slice();
     let g = graph_of(alloc, n, piece)?;
     let marks = marks_of(alloc, n, nodes)?;
     let middle = nodes[nodes.len() / 2];

@@ -3,6 +3,7 @@
 
 mod complete;
 mod cutting;
+mod guesses;
 mod marked;
 mod marks;
 mod parts;

@@ -20,20 +20,27 @@ fn place_in(nodes: &[u32], v: u32) -> u32
     }
 }
 
-// The piece as a graph of its own, each node by its place.
-fn own_graph(alloc: Global, piece: &Piece) -> Result<Option<Graph>, NoMemory>
-    requires nodes { length piece.now.nodes ≤ graph_node_limit }
-    requires links { length piece.now.links ≤ graph_link_limit }
-    ensures { IfOk result (λ o. IfSome o (λ (g : Network). g.nodes ≡ length piece.now.nodes)) }
+// The links, each end by its place in the list.
+fn own_links(alloc: Global, nodes: &[u32], links: &[Link]) -> Result<Vec<Link>, NoMemory>
+    requires { length nodes.now ≤ graph_node_limit }
+    ensures { IfOk result (λ own. length own.items ≡ length links.now) }
 {
-    let nodes = piece.nodes.as_slice();
-    let mut links = Vec::new(alloc);
-    for link in piece.links.as_slice() {
+    let mut own = Vec::new(alloc);
+    for link in links {
         let a = place_in(nodes, link.a);
         let b = place_in(nodes, link.b);
-        links.push(Link { a, b })?;
+        own.push(Link { a, b })?;
     }
-    match Graph::new(alloc, nodes.len() as u32, &links) {
+    Ok(own)
+}
+
+// The graph with these links, if they make one.
+fn own_graph(alloc: Global, count: u32, links: &[Link]) -> Result<Option<Graph>, NoMemory>
+    requires nodes { count ≤ graph_node_limit }
+    requires links { length links.now ≤ graph_link_limit }
+    ensures { IfOk result (λ o. IfSome o (λ (g : Network). g.nodes ≡ count)) }
+{
+    match Graph::new(alloc, count, links) {
         Ok(g) => Ok(Some(g)),
         Err(GraphFault::NoMemory) => Err(NoMemory),
         Err(_) => Ok(None),
@@ -87,28 +94,50 @@ fn are_large(ways: &[Parting], nodes: usize) -> bool {
     nodes <= FEW && !ways.is_empty() || ways.iter().any(|way| way.side.len() >= nodes / 8)
 }
 
-// Guesses of where two nodes part the piece: its thin ways; or where it is long, or small beside all nodes and without such ways, what a
-// search finds in a graph of its own nodes.
+// Guesses for a piece of so many nodes, each by its place: its thin ways; or where it is long, or small and without such ways, what a search
+// finds.
+fn own_guesses(
+    alloc: Global,
+    count: u32,
+    links: &[Link],
+    is_small: bool,
+) -> Result<Vec<Parting>, NoMemory>
+    requires nodes { count ≤ graph_node_limit }
+    requires links { length links.now ≤ graph_link_limit }
+    requires four { 4 ≤ count }
+{
+    let mut ways = thin_ways(alloc, count, links)?;
+    if are_large(&ways, count as usize) || ways.is_empty() && !is_small {
+        return Ok(ways);
+    }
+    let Some(g) = own_graph(alloc, count, links)? else {
+        return Ok(ways);
+    };
+    let all = vec![in alloc; true; count as usize]?;
+    if !ways.is_empty() && !is_long(alloc, &g, &all)? {
+        return Ok(ways);
+    }
+    ways.clear();
+    if let Some(found) = probe(alloc, &g, &all, count / 2)? {
+        ways.push(found)?;
+    }
+    Ok(ways)
+}
+
+// Guesses of where two nodes part the piece, which is small beside a graph of n nodes where it has less than a quarter of them. Each node of
+// the piece goes by its place meanwhile, so that nothing is made for all n.
 pub fn guesses(alloc: Global, n: u32, piece: &Piece) -> Result<Vec<Parting>, NoMemory>
     requires nodes { length piece.now.nodes ≤ graph_node_limit }
     requires links { length piece.now.links ≤ graph_link_limit }
     requires four { 4 ≤ length piece.now.nodes }
 {
     let nodes = piece.nodes.as_slice();
-    let mut ways = thin_ways(alloc, n, nodes, piece.links.as_slice())?;
-    if are_large(&ways, nodes.len()) || ways.is_empty() && nodes.len() > n as usize / 4 {
-        return Ok(ways);
+    let links = own_links(alloc, nodes, piece.links.as_slice())?;
+    let count = nodes.len() as u32;
+    let own = own_guesses(alloc, count, &links, count < n / 4)?;
+    let mut found = Vec::new(alloc);
+    for places in &own {
+        found.push(named(alloc, nodes, places)?)?;
     }
-    let Some(g) = own_graph(alloc, piece)? else {
-        return Ok(ways);
-    };
-    let all = vec![in alloc; true; nodes.len()]?;
-    if !ways.is_empty() && !is_long(alloc, &g, &all)? {
-        return Ok(ways);
-    }
-    ways.clear();
-    if let Some(places) = probe(alloc, &g, &all, nodes.len() as u32 / 2)? {
-        ways.push(named(alloc, nodes, &places)?)?;
-    }
-    Ok(ways)
+    Ok(found)
 }

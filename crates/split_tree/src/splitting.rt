@@ -57,9 +57,9 @@ fn whole(alloc: Global, g: &Graph, block: &NodeSet) -> Result<Piece, NoMemory>
 /// The split tree of a block of at least three nodes, whose topmost piece is the block with its links. A piece of more than three nodes is
 /// cut at two nodes that part it, as long as there are two, into two parts; each part gets the link between the two. After Hopcroft and
 /// Tarjan (1973), in another way: pieces are cut one by one. A path whose inner nodes have two neighbours each is cut off at its ends, in a
-/// few passes over the nodes and links of the piece, and over one mark for each node of the graph; a piece whose nodes are all linked takes no
-/// pass. Any other takes a test of three-connectivity, so at most about three searches for each node of it. Rings are cut in half, and long
-/// strips near their middle; a piece from which each cut takes few nodes may need as many levels as it has nodes, each with a piece of its own.
+/// few passes over the nodes and links of the piece, and over a few marks for each node of the graph. Any other piece takes a test of
+/// three-connectivity, so at most about three searches for each node of it, unless its nodes are all linked. Rings are cut in half, and
+/// long strips near their middle; a piece from which each cut takes few nodes may need as many levels as it has nodes.
 pub fn split(alloc: Global, g: &Graph, block: &NodeSet) -> Result<SplitTree, NoMemory>
     requires block { IsBlock g.now (has block.now) }
     requires nodes { All (λ v. v < g.now.nodes) block.now }

@@ -22,14 +22,14 @@ fn meet(around: &mut [Around], v: u32, w: u32) {
 }
 
 // The neighbours of each node.
-fn neighbours(alloc: Global, n: u32, links: &[Link]) -> Result<Vec<Around>, NoMemory> {
+fn neighbours(alloc: Global, count: u32, links: &[Link]) -> Result<Vec<Around>, NoMemory> {
     let none = Around {
         count: 0,
         last: 0,
         other: 0,
         seen: false,
     };
-    let mut around = vec![in alloc; none; n as usize]?;
+    let mut around = vec![in alloc; none; count as usize]?;
     for link in links {
         meet(&mut around, link.a, link.b);
         meet(&mut around, link.b, link.a);
@@ -95,16 +95,11 @@ fn way_through(
     })
 }
 
-// The thin ways of a piece with these nodes and links, in one pass over them.
-pub fn thin_ways(
-    alloc: Global,
-    n: u32,
-    nodes: &[u32],
-    links: &[Link],
-) -> Result<Vec<Parting>, NoMemory> {
-    let mut around = neighbours(alloc, n, links)?;
+// The thin ways of a piece with so many nodes and these links, in one pass over them.
+pub fn thin_ways(alloc: Global, count: u32, links: &[Link]) -> Result<Vec<Parting>, NoMemory> {
+    let mut around = neighbours(alloc, count, links)?;
     let mut ways = Vec::new(alloc);
-    for &v in nodes {
+    for v in 0..count {
         if let Some(here) = enter(&mut around, v) {
             let way = way_through(alloc, &mut around, v, here)?;
             ways.push(way)?;

@@ -1,15 +1,15 @@
-// Monitors are judged where memory is ample; the judge answers as flows and as the extended graph do.
+// Monitors are judged where memory is ample, and nodes seen from them; the judge answers as flows and as the extended graph do.
 ghost use Rattle.std.specs.Prelude.{◌≤◌, ◌<◌, All};
 ghost use Rattle.tomo_base.specs.Walks.{IsConnected};
 
-use crate::tests::shapes::{SHARING_A_PAIR, STAR, Shape, lies_in, network_of};
+use crate::tests::shapes::{CHORD, SHARING_A_PAIR, STAR, Shape, lies_in, network_of};
 use drill::generate;
 use extended_graph::extend;
 use judge::{Verdict, judge};
 use samples::set_of;
 use std::alloc::Global;
 use std::test::Fail;
-use three_conn::{Conn, three_connected};
+use three_conn::{Conn, seen, three_connected};
 use tomo_base::{GRAPH_LINK_LIMIT, GRAPH_NODE_LIMIT, Graph, NoMemory, NodeSet};
 use unit_flow::{Fanned, fan};
 
@@ -47,6 +47,28 @@ fn two_nodes_part_what_monitors_cannot_see(rt: HostRuntime) -> Result<(), Fail> 
         (&[0, 2, 5], &[]),
     ] {
         assert!(rt; is_judged(rt.alloc(), &SHARING_A_PAIR, monitors, bad)?);
+    }
+    Ok(())
+}
+
+// Whether just the marked nodes of a shape are seen from the monitors.
+fn are_seen(alloc: Global, shape: &Shape, monitors: &[u32], marks: &[bool]) -> Result<bool, Fail> {
+    let Some(g) = network_of(alloc, shape)? else {
+        return Ok(false);
+    };
+    let set = set_of(alloc, monitors)?;
+    Ok(lies_in(&g, &set) && seen(alloc, &g, &set)?.as_slice() == marks)
+}
+
+#[test]
+fn what_two_nodes_part_from_monitors_is_not_seen(rt: HostRuntime) -> Result<(), Fail> {
+    for (shape, monitors, marks) in [
+        (STAR, [1, 2, 3].as_slice(), [true; 4]),
+        (STAR, &[1, 2], [false, true, true, false]),
+        (CHORD, &[0, 1, 3], [true; 4]),
+        (CHORD, &[0, 1, 2], [true, true, true, false]),
+    ] {
+        assert!(rt; are_seen(rt.alloc(), &shape, monitors, &marks)?);
     }
     Ok(())
 }

@@ -175,13 +175,7 @@ fn good_plan(
 }
 
 // What a task does with its topology and plan.
-fn with_plan(
-    alloc: Global,
-    task: PlanTask,
-    topology: Topology,
-    plan: Plan,
-    name: &str,
-) -> Taken
+fn with_plan(alloc: Global, task: PlanTask, topology: Topology, plan: Plan, name: &str) -> Taken
     requires { row_count plan < 2 ^ 32 }
     ensures after { IfOk result (λ next. GoesOn task topology plan name.now next) }
     ensures fewer { IfOk result (λ next. Fewer (files_left (APlan task topology)) next) }
@@ -200,13 +194,7 @@ fn with_plan(
 }
 
 // Takes in a plan.
-fn take_plan(
-    alloc: Global,
-    task: PlanTask,
-    topology: Topology,
-    name: &str,
-    rows: &Rows,
-) -> Taken
+fn take_plan(alloc: Global, task: PlanTask, topology: Topology, name: &str, rows: &Rows) -> Taken
     requires { byte_count rows.now.closed < 2 ^ 31 }
     ensures taken { IfOk result (λ next. TakesPlan task topology name.now rows.now.closed next) }
     ensures fewer { IfOk result (λ next. Fewer (files_left (APlan task topology)) next) }
@@ -249,13 +237,7 @@ fn take_in(alloc: Global, wants: Wants, name: &str, content: Vec<u8>) -> Taken
 }
 
 /// Takes in what was read of the file that was wanted.
-pub fn feed(
-    alloc: Global,
-    wants: Wants,
-    name: &str,
-    got: Got,
-    content: Vec<u8>,
-) -> Taken
+pub fn feed(alloc: Global, wants: Wants, name: &str, got: Got, content: Vec<u8>) -> Taken
     requires { length content.items ≤ limit (kind_of wants) }
     ensures steps { IfOk result (λ next. StepsBy wants name.now got content.items next) }
     ensures fewer { IfOk result (λ next. Fewer (files_left wants) next) }

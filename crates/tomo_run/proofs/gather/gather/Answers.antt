@@ -5,8 +5,7 @@ use Rattle.tomo_run.specs.Table.{file_words}
 use Rattle.answers.specs.FileKinds.{limit}
 use Rattle.tomo_run.specs.Machine.{start, kind_of}
 use Rattle.tomo_run.proofs.Shape.{file_place, file_count, files_few, first_low, start_fit, files_fit}
-use Rattle.tomo_run.proofs.Gathering.{Fronts, taken_none, fronts_before, taken_leads, turn_below, turn_named, turn_asks, reading_first, reading_more, reading_ends, asks_all, asked_more, knows_at, gives_wanted, within_wanted}
-use Rattle.tomo_run.proofs.gather.gather.Given as given
+use Rattle.tomo_run.proofs.Gathering.{taken_none, fronts_before, taken_leads, turn_below, turn_named, turn_asks, reading_first, reading_more, reading_ends, asks_all, asked_more, knows_at, gives_wanted, within_wanted}
 use Rattle.tomo_run.proofs.gather.gather.Goals as goal
 
 pub loop-content-init : goal.loop-content-init
@@ -48,28 +47,23 @@ at-name-requires g c =
 pub feed-requires : goal.feed-requires
 feed-requires g c = within_wanted _ c.at-name.result.now c.loop-content.wants c.kind.result c.limit_of.result c.in_ok-got.got c.read.new.out.items c.kind.ensures c.limit_of.ensures c.in_ok-got.ensures.gives
 
--- what was asked for after a read is a front of the names
-asks : (g : given.Over) (c : goal.After-read g) → Fronts (g.S.Shelf.told c.args.shelf.now) (file_words c.args.words.now) (start c.args.shape) (g.S.Shelf.asked c.args.shelf.now) (g.S.Shelf.asked c.read.new.self)
-asks g c =
-    turn_asks _ c.args.words.now c.args.shape _ _ _ c.first-first.result c.loop-content.turn c.loop-content.wants c.at-name.result.now c.read.result c.requires c.loop-content.invariant.reading c.first-first.ensures c.at-name.ensures c.read.ensures.asks
-
 pub returns-in_err-got-clause-asked : goal.returns-in_err-got-clause-asked
-returns-in_err-got-clause-asked g c = (asks g (goal.at.returns-in_err-got-clause-asked g c).After-read).0
+returns-in_err-got-clause-asked g c = (turn_asks _ c.args.words.now c.args.shape _ _ _ c.first-first.result c.loop-content.turn c.loop-content.wants c.at-name.result.now c.read.result c.requires c.loop-content.invariant.reading c.first-first.ensures c.at-name.ensures c.read.ensures.asks).0
 
 pub returns-in_err-got-clause-stops : goal.returns-in_err-got-clause-stops
-returns-in_err-got-clause-stops g c = (asks g (goal.at.returns-in_err-got-clause-stops g c).After-read).1
+returns-in_err-got-clause-stops g c = (turn_asks _ c.args.words.now c.args.shape _ _ _ c.first-first.result c.loop-content.turn c.loop-content.wants c.at-name.result.now c.read.result c.requires c.loop-content.invariant.reading c.first-first.ensures c.at-name.ensures c.read.ensures.asks).1
 
 pub returns-in-Ok-Stop-clause-asked : goal.returns-in-Ok-Stop-clause-asked
-returns-in-Ok-Stop-clause-asked g c = (asks g (goal.at.returns-in-Ok-Stop-clause-asked g c).After-read).0
+returns-in-Ok-Stop-clause-asked g c = (turn_asks _ c.args.words.now c.args.shape _ _ _ c.first-first.result c.loop-content.turn c.loop-content.wants c.at-name.result.now c.read.result c.requires c.loop-content.invariant.reading c.first-first.ensures c.at-name.ensures c.read.ensures.asks).0
 
 pub returns-in-Ok-Stop-clause-stops : goal.returns-in-Ok-Stop-clause-stops
-returns-in-Ok-Stop-clause-stops g c = (asks g (goal.at.returns-in-Ok-Stop-clause-stops g c).After-read).1
+returns-in-Ok-Stop-clause-stops g c = (turn_asks _ c.args.words.now c.args.shape _ _ _ c.first-first.result c.loop-content.turn c.loop-content.wants c.at-name.result.now c.read.result c.requires c.loop-content.invariant.reading c.first-first.ensures c.at-name.ensures c.read.ensures.asks).1
 
 pub returns-in-Err-clause-asked : goal.returns-in-Err-clause-asked
-returns-in-Err-clause-asked g c = (asks g (goal.at.returns-in-Err-clause-asked g c).After-read).0
+returns-in-Err-clause-asked g c = (turn_asks _ c.args.words.now c.args.shape _ _ _ c.first-first.result c.loop-content.turn c.loop-content.wants c.at-name.result.now c.read.result c.requires c.loop-content.invariant.reading c.first-first.ensures c.at-name.ensures c.read.ensures.asks).0
 
 pub returns-in-Err-clause-stops : goal.returns-in-Err-clause-stops
-returns-in-Err-clause-stops g c = (asks g (goal.at.returns-in-Err-clause-stops g c).After-read).1
+returns-in-Err-clause-stops g c = (turn_asks _ c.args.words.now c.args.shape _ _ _ c.first-first.result c.loop-content.turn c.loop-content.wants c.at-name.result.now c.read.result c.requires c.loop-content.invariant.reading c.first-first.ensures c.at-name.ensures c.read.ensures.asks).1
 
 pub returns-in_err-got-clause-sure : goal.returns-in_err-got-clause-sure
 returns-in_err-got-clause-sure g c is_sure knows failed =

@@ -87,15 +87,10 @@ fn is_long(alloc: Global, g: &Graph, all: &[bool]) -> Result<bool, NoMemory>
 }
 
 // A piece of so few nodes is cut at its ways however long it is.
-const FEW: usize = 64;
+const FEW: u32 = 64;
 
-// Whether the ways are to be taken, since the piece is small, or one of them has an eighth of its nodes.
-fn are_large(ways: &[Parting], nodes: usize) -> bool {
-    nodes <= FEW && !ways.is_empty() || ways.iter().any(|way| way.side.len() >= nodes / 8)
-}
-
-// Guesses for a piece of so many nodes, each by its place: its thin ways; or where it is long, or small and without such ways, what a search
-// finds.
+// Guesses for a piece of so many nodes, each by its place: its thin ways, of a large piece first those that have an eighth of its nodes; or
+// where it is long, or small and without such ways, what a search finds.
 fn own_guesses(
     alloc: Global,
     count: u32,
@@ -107,7 +102,12 @@ fn own_guesses(
     requires four { 4 ≤ count }
 {
     let mut ways = thin_ways(alloc, count, links)?;
-    if are_large(&ways, count as usize) || ways.is_empty() && !is_small {
+    if ways.is_empty() && !is_small || !ways.is_empty() && count <= FEW {
+        return Ok(ways);
+    }
+    let least = count as usize / 8;
+    if ways.iter().any(|way| way.side.len() >= least) {
+        ways.retain(|way| way.side.len() >= least);
         return Ok(ways);
     }
     let Some(g) = own_graph(alloc, count, links)? else {
@@ -124,8 +124,8 @@ fn own_guesses(
     Ok(ways)
 }
 
-// Guesses of where two nodes part the piece, which is small beside a graph of n nodes where it has less than a quarter of them. Each node of
-// the piece goes by its place meanwhile, so that nothing is made for all n.
+// Guesses of where two nodes part the piece, which is small beside a graph of n nodes where it has less than a quarter of them. Each node
+// of the piece goes by its place meanwhile, so that nothing is made for all n.
 pub fn guesses(alloc: Global, n: u32, piece: &Piece) -> Result<Vec<Parting>, NoMemory>
     requires nodes { length piece.now.nodes ≤ graph_node_limit }
     requires links { length piece.now.links ≤ graph_link_limit }

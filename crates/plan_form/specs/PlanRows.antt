@@ -128,8 +128,8 @@ abbrev pub AddsRows : RowList → RowList → List Row → Type 0
 AddsRows old new rows = (new.closed ≡ old.closed ++ rows) × (new.current ≡ [])
 
 -- no field is at hand, and there is room for so many rows more
-abbrev pub HasRoom : RowList → ℕ → Type 0
-HasRoom rows n = (rows.current ≡ []) × (length rows.closed + n < 2 ^ 32)
+abbrev pub HasRoomForRows : RowList → ℕ → Type 0
+HasRoomForRows rows n = (rows.current ≡ []) × (length rows.closed + n < 2 ^ 32)
 
 -- a row for each item was added, each with its number from 0 on
 abbrev pub AddsEach : {A : Type 0} → (ℕ → A → Row) → List A → RowList → RowList → Type 0

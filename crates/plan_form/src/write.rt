@@ -2,7 +2,7 @@
 ghost use Rattle.std.specs.Prelude.{◌≡◌, ◌+◌, ◌<◌, ◌^◌, ◌++◌, [], ◌∷◌, IfOk, OnOk, length, map, decimal};
 ghost use Rattle.plan_form.specs.Spelling.{numbers_text, term_text, terms_text};
 ghost use Rattle.plan_form.specs.Held.{part_of};
-ghost use Rattle.plan_form.specs.PlanRows.{AddsRows, AddsEach, HasRoom, node_row, link_row, pocket_row, path_row, recipe_row, row_count, plan_rows as rows_of_plan};
+ghost use Rattle.plan_form.specs.PlanRows.{AddsRows, AddsEach, HasRoomForRows, node_row, link_row, pocket_row, path_row, recipe_row, row_count, plan_rows as rows_of_plan};
 
 use crate::kinds::NEWEST_FORMAT;
 use crate::plan::{HeldPocket, Plan};
@@ -122,7 +122,7 @@ pub fn add_counted(
 
 // Adds a row for each name.
 fn add_names(rows: &mut Rows, names: &Words) -> Result<(), NoMemory>
-    requires { HasRoom rows.old (length names.now) }
+    requires { HasRoomForRows rows.old (length names.now) }
     ensures { OnOk result (AddsEach node_row names.now rows.old rows.new) }
 {
     for i in 0..names.len() {
@@ -133,7 +133,7 @@ fn add_names(rows: &mut Rows, names: &Words) -> Result<(), NoMemory>
 
 // Adds a row for each link.
 fn add_links(rows: &mut Rows, links: &[Link]) -> Result<(), NoMemory>
-    requires { HasRoom rows.old (length links.now) }
+    requires { HasRoomForRows rows.old (length links.now) }
     ensures { OnOk result (AddsEach link_row links.now rows.old rows.new) }
 {
     for (i, link) in links.iter().enumerate() {
@@ -151,7 +151,7 @@ fn add_links(rows: &mut Rows, links: &[Link]) -> Result<(), NoMemory>
 
 // Adds a row of the word for each node.
 fn add_nodes(rows: &mut Rows, word: &str, nodes: &[u32]) -> Result<(), NoMemory>
-    requires { HasRoom rows.old (length nodes.now) }
+    requires { HasRoomForRows rows.old (length nodes.now) }
     ensures { OnOk result (AddsEach (λ _ v. word.now ∷ decimal v ∷ []) nodes.now rows.old rows.new) }
 {
     for v in nodes {
@@ -163,7 +163,7 @@ fn add_nodes(rows: &mut Rows, word: &str, nodes: &[u32]) -> Result<(), NoMemory>
 
 // Adds a row for each pocket; `text` is room for the nodes.
 fn add_pockets(rows: &mut Rows, pockets: &[HeldPocket], text: &mut Vec<u8>) -> Result<(), NoMemory>
-    requires { HasRoom rows.old (length pockets.now) }
+    requires { HasRoomForRows rows.old (length pockets.now) }
     ensures { OnOk result (AddsEach pocket_row (map part_of pockets.now) rows.old rows.new) }
 {
     for (i, pocket) in pockets.iter().enumerate() {
@@ -176,7 +176,7 @@ fn add_pockets(rows: &mut Rows, pockets: &[HeldPocket], text: &mut Vec<u8>) -> R
 
 // Adds a row for each path; `text` is room for the nodes.
 fn add_paths(rows: &mut Rows, paths: &PathPool, text: &mut Vec<u8>) -> Result<(), NoMemory>
-    requires { HasRoom rows.old (length paths.now) }
+    requires { HasRoomForRows rows.old (length paths.now) }
     ensures { OnOk result (AddsEach path_row paths.now rows.old rows.new) }
 {
     for i in 0..paths.len() {
@@ -187,7 +187,7 @@ fn add_paths(rows: &mut Rows, paths: &PathPool, text: &mut Vec<u8>) -> Result<()
 
 // Adds a row for each recipe; `text` is room for the terms.
 fn add_recipes(rows: &mut Rows, recipes: &Recipes, text: &mut Vec<u8>) -> Result<(), NoMemory>
-    requires { HasRoom rows.old (length recipes.now) }
+    requires { HasRoomForRows rows.old (length recipes.now) }
     ensures { OnOk result (AddsEach recipe_row recipes.now rows.old rows.new) }
 {
     for i in 0..recipes.len() {

@@ -1,5 +1,5 @@
 -- A sort of paths leaves as many nodes, and a search finds the place of a path.
-use Rattle.std.proofs.Common.{◌≡◌, ℕ, zero, suc, add-one, ◌<◌, ◌≤◌, List, [], ◌∷◌, length, get_or, refl, sym, ◌∙◌, inl, inr, arith, Vec, Contains}
+use Rattle.std.proofs.Common.{◌≡◌, ℕ, zero, suc, add-one, ◌<◌, ◌≤◌, ◌+◌, ◌++◌, List, [], ◌∷◌, length, take, get_or, refl, sym, ◌∙◌, inl, inr, arith, Vec, Contains}
 use Rattle.std.specs.Global.{Global}
 use Rattle.std.specs.declared.cmp.Ordering.{Ordering}
 use Rattle.std.specs.Cmp.Lexicographic.{nat_list_cmp_total}
@@ -9,14 +9,15 @@ use Rattle.std.specs.List.Sorted.{IsSortedBy, IsNonDecreasingBy, IsPartitionPoin
 use Rattle.std.specs.Ordering.{is_lt, ordering_reverse, ordering_index}
 use Rattle.std.specs.declared.cmp.Ordering.TheVariants.{Less, Equal, Greater}
 use Rattle.std.proofs.lemmas.Bool.{cases_lt}
+use Rattle.std.proofs.Math.Seq.{get_or-append_seam}
 use Rattle.std.proofs.lemmas.List.Recursion.{is_sum_by}
 use Rattle.std.proofs.lemmas.List.Sorted.{searchable_from_sorted}
 use Rattle.std.proofs.lemmas.Map.Lookups.{exact_bytes}
 use Rattle.simple_path.specs.Pools.{nodes_in}
-use Rattle.std.proofs.lemmas.List.{get_or-map, length-map}
+use Rattle.std.proofs.lemmas.List.{get_or-map, length-map, length-take-le, length-append, get_or-take, get_or_append_left}
 use Rattle.plan_form.specs.Order.{path_cmp}
 use Rattle.plan_form.specs.Building.{turned}
-use Rattle.plan_form.specs.Steps.{IsNumberOf}
+use Rattle.plan_form.specs.Steps.{IsNumberOf, AreNumbers}
 use Rattle.tomo_base.specs.SetLists.{lists_of}
 
 -- how many node numbers there are is the sum of the lengths
@@ -73,3 +74,19 @@ search_finds (v ∷ vs) key i up at found =
 -- a search that ended at an equal path
 pub search_number : (vs : List (Vec ℕ Global)) (key : Vec ℕ Global) (path : List ℕ) (i : ℕ) → i < length vs → ((d : Vec ℕ Global) → path_cmp (get_or vs i d).items key.items ≡ Equal) → key.items ≡ turned path → IsNumberOf (lists_of vs) path i
 search_number vs key path i l tie is = (rw length-map l, get_or-map (λ (v : Vec ℕ Global). v.items) vs i key [] l ∙ (exact_bytes (get_or vs i key).items key.items (tie key) ∙ is))
+
+-- the numbers of one path more
+pub number_more : (pool paths : List (List ℕ)) (numbers : List ℕ) (i n : ℕ) → i < length pool → AreNumbers (take i pool) paths numbers → IsNumberOf paths (get_or pool i []) n → AreNumbers (take (i + 1) pool) paths (numbers ++ n ∷ [])
+number_more pool paths numbers i n l are here = record {
+  one_each = omega (arith, length-append numbers (n ∷ []), count, length-take-le (i + 1) pool (omega (arith, l)));
+  each = λ j below.
+      let most : j < i + 1 = omega (arith, below, length-take-le (i + 1) pool (omega (arith, l))) in
+      rw (get_or-take (i + 1) pool j [] most) (elim (cases_lt j i) [
+        | inl before ↦ rw (get_or_append_left numbers (n ∷ []) 0 j (omega (arith, before, count))) (rw (get_or-take i pool j [] before) at (are.each j (omega (arith, before, length-take-le i pool (omega (arith, l))))))
+        | inr after ↦ let last : j ≡ length numbers = omega (arith, most, after, count) in
+            rw (last, get_or-append_seam numbers n [] 0, count) here
+      ]);
+}
+  where
+    count : length numbers ≡ i
+    count = omega (arith, are.one_each, length-take-le i pool (omega (arith, l)))

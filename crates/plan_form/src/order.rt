@@ -7,7 +7,7 @@ ghost use Rattle.plan_form.specs.Steps.{IsNumberOf, AreNumbers, AreOrdered};
 ghost use Rattle.tomo_base.specs.SetLists.{lists_of};
 
 use crate::copies::copy_paths;
-use crate::directions::{turn, turn_all};
+use crate::directions::{turn_all, turn_into};
 use simple_path::PathPool;
 use std::alloc::Global;
 use tomo_base::{NoMemory, sort_lists};
@@ -19,14 +19,15 @@ pub struct Ordered {
     pub numbers: Vec<u32>,
 }
 
-// The number of a path of the pool, turned, among the paths in order.
-fn number_of(alloc: Global, paths: &[Vec<u32>], path: &[u32]) -> Result<u32, NoMemory>
+// The number of a path of the pool, turned in a buffer, among the paths in order.
+fn number_of(paths: &[Vec<u32>], path: &[u32], buffer: &mut Vec<u32>) -> Result<u32, NoMemory>
     requires ascending { IsStrictlySortedBy path_cmp (lists_of paths.now) }
     requires few { length paths.now < 2 ^ 32 }
     requires member { Contains (lists_of paths.now) (turned path.now) }
     ensures { IfOk result (IsNumberOf (lists_of paths.now) path.now) }
 {
-    match paths.binary_search(&turn(alloc, path)?) {
+    turn_into(path, buffer)?;
+    match paths.binary_search(buffer) {
         Ok(place) => Ok(place as u32),
         Err(_) => unreachable!(),
     }
@@ -40,8 +41,9 @@ fn number_all(alloc: Global, paths: &[Vec<u32>], pool: &PathPool) -> Result<Vec<
     ensures { IfOk result (λ numbers. AreNumbers pool.now (lists_of paths.now) numbers.items) }
 {
     let mut numbers = Vec::new(alloc);
+    let mut buffer = Vec::new(alloc);
     for i in 0..pool.len() {
-        numbers.push(number_of(alloc, paths, pool.path(i))?)?;
+        numbers.push(number_of(paths, pool.path(i), &mut buffer)?)?;
     }
     Ok(numbers)
 }

@@ -92,17 +92,17 @@ fn add(tallies: &mut Vec<Tally>, term: Term) -> Result<(), NoMemory>
     Ok(())
 }
 
-// The sums of the coefficients of all paths, by their new numbers.
-fn add_up(alloc: Global, terms: &[Term], numbers: &[u32]) -> Result<Vec<Tally>, NoMemory>
+// Makes the list that of the sums of the coefficients of all paths, by their new numbers.
+fn add_up(terms: &[Term], numbers: &[u32], tallies: &mut Vec<Tally>) -> Result<(), NoMemory>
     requires few { length terms.now < 2 ^ 32 }
     requires names { All (λ t. t.path < length numbers.now) terms.now }
-    ensures { IfOk result (λ sums. AreSums (renumbered (number_in numbers.now) terms.now) (map term_of sums.items)) }
+    ensures { OnOk result (AreSums (renumbered (number_in numbers.now) terms.now) (map term_of tallies.new.items)) }
 {
-    let mut tallies = Vec::new(alloc);
+    tallies.clear();
     for term in terms {
-        add(&mut tallies, renumber(*term, numbers))?;
+        add(tallies, renumber(*term, numbers))?;
     }
-    Ok(tallies)
+    Ok(())
 }
 
 // The sums other than 0, as terms.
@@ -120,15 +120,20 @@ fn keep_some(alloc: Global, tallies: &[Tally]) -> Result<Recipe, NoMemory>
     Ok(recipe)
 }
 
-// The terms with new path numbers, the coefficients of each path added up.
-fn rewrite(alloc: Global, terms: &[Term], numbers: &[u32]) -> Result<Recipe, NoMemory>
+// The terms with new path numbers, the coefficients of each path added up in the list of tallies, whatever it held.
+fn rewrite(
+    alloc: Global,
+    terms: &[Term],
+    numbers: &[u32],
+    tallies: &mut Vec<Tally>,
+) -> Result<Recipe, NoMemory>
     requires few { length terms.now < 2 ^ 32 }
     requires names { All (λ t. t.path < length numbers.now) terms.now }
     requires short { (new : List Term) → IsMerged (renumbered (number_in numbers.now) terms.now) new → IsShort new }
     ensures { IfOk result (λ new. IsMerged (renumbered (number_in numbers.now) terms.now) new) }
 {
-    let tallies = add_up(alloc, terms, numbers)?;
-    keep_some(alloc, &tallies)
+    add_up(terms, numbers, tallies)?;
+    keep_some(alloc, tallies)
 }
 
 // All recipes, rewritten so.
@@ -140,8 +145,9 @@ pub fn rewrite_all(alloc: Global, recipes: &Recipes, numbers: &[u32]) -> Result<
     ensures merged { IfOk result (λ all. (i : ℕ) → i < length recipes.now → IsMerged (renumbered (number_in numbers.now) (slice_index_or recipes.now i [])) (slice_index_or all i [])) }
 {
     let mut all = Recipes::new(alloc);
+    let mut tallies = Vec::new(alloc);
     for i in 0..recipes.len() {
-        let recipe = rewrite(alloc, recipes.at(i).terms(), numbers)?;
+        let recipe = rewrite(alloc, recipes.at(i).terms(), numbers, &mut tallies)?;
         if all.push(recipe).is_err() {
             return Err(NoMemory);
         }

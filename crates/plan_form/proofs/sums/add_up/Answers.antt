@@ -4,7 +4,7 @@ use Rattle.plan_form.proofs.Tallies.{tallied_none, tallied_more, tallied_room, t
 use Rattle.plan_form.proofs.sums.add_up.Goals as goal
 
 pub loop-term-init : goal.loop-term-init
-loop-term-init c = rw c.new-tallies.ensures.items (tallied_none (number_in c.args.numbers.now) c.args.terms.now)
+loop-term-init c = rw c.clear.ensures.items (tallied_none (number_in c.args.numbers.now) c.args.terms.now)
 
 pub add-requires-clause-room : goal.add-requires-clause-room
 add-requires-clause-room c = tallied_room _ _ _ _ (omega (arith, c.loop-term-test.true, c.requires.few)) c.loop-term.invariant

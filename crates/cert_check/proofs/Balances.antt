@@ -18,7 +18,7 @@ use Rattle.simple_path.specs.Terms.{path_terms}
 use Rattle.simple_path.specs.Pools.{nodes_in}
 use Rattle.plan_form.specs.Parts.{IsCoefficient}
 use Rattle.cert_check.specs.declared.counts.Counts.{Counts}
-use Rattle.cert_check.specs.Counting.{HasCounts, IsCounted}
+use Rattle.cert_check.specs.Counting.{times, AreSteps, HasCounts, IsCounted}
 use Rattle.cert_check.proofs.Uses.{uses_few}
 use Rattle.simple_path.proofs.Pools.{length-path_terms, path_within}
 
@@ -69,40 +69,39 @@ each_long : (links : List Link) (c : Counts) (b : Bool) → HasCounts links c �
 each_long links c true held = held.gain_each
 each_long links c false held = held.loss_each
 
--- counts after a path, where those of one side grew by the weight
-module _ (links : List Link) (c : Counts) (coef : ℤ) (path : List ℕ) where
+-- counts after the steps of a path, where those of one side grew by the weight
+module _ (c : Counts) (coef : ℤ) (steps : List ℕ) where
   -- both sides grew by what the coefficient adds to them
-  both_more : (c' : Counts) → HasCounts links c → ((b : Bool) → length (side b c') ≡ length links)
-      → ((b : Bool) (k : ℕ) (l : Link) → slice_get links k ≡ Some l → entry_at (side b c') k ≡ entry_at (side b c) k + added_to b coef * uses_of l path)
-      → (All (λ k. k < length links) c.touched.items → All (λ k. k < length links) c'.touched.items) → ((k : ℕ) → Contains c.touched.items k → Contains c'.touched.items k)
-      → ((k : ℕ) → Contains c'.touched.items k ⊎ ((b : Bool) → entry_at (side b c') k ≡ entry_at (side b c) k))
-      → (terms : List (ℤ × List ℕ)) → IsCounted links terms c → IsCounted links (terms ++ (coef, path) ∷ []) c'
-  both_more c' held size counted inside kept touched terms was = record {
-    has = record {
-      gain_each = size true;
-      loss_each = size false;
-      in_links = inside held.in_links;
-      untouched = λ k. elim (held.untouched k) [
-        | inl there ↦ inl (kept k there)
-        | inr bare ↦ elim (touched k) [ inl there ↦ inl there | inr still ↦ inr (still true ∙ bare.0, still false ∙ bare.1) ]
-      ];
-    };
-    gained = λ k l at. rw weighted-push (omega (arith, counted true k l at, was.gained k l at));
-    lost = λ k l at. rw weighted-push (omega (arith, counted false k l at, was.lost k l at));
-  }
+  both_more : (b : Bool) (c' : Counts) → ((s : Bool) → length (side s c') ≡ length (side s c)) → ((s : Bool) (k : ℕ) → entry_at (side s c') k ≡ entry_at (side s c) k + added_to s coef * times k steps)
+      → (All (λ k. k < length (side b c)) c.touched.items → All (λ k. k < length (side b c)) c'.touched.items) → ((k : ℕ) → Contains c.touched.items k → Contains c'.touched.items k)
+      → ((k : ℕ) → Contains c'.touched.items k ⊎ ((s : Bool) → entry_at (side s c') k ≡ entry_at (side s c) k))
+      → (links : List Link) (terms : List (ℤ × List ℕ)) (path : List ℕ) → AreSteps links path steps → IsCounted links terms c → IsCounted links (terms ++ (coef, path) ∷ []) c'
+  both_more b c' size counted inside kept touched links terms path are was =
+      let long : length (side b c) ≡ length links = each_long links c b was.has in
+      record {
+        has = record {
+          gain_each = size true ∙ was.has.gain_each;
+          loss_each = size false ∙ was.has.loss_each;
+          in_links = rw long at (inside (rw long was.has.in_links));
+          untouched = λ k. elim (was.has.untouched k) [
+            | inl there ↦ inl (kept k there)
+            | inr bare ↦ elim (touched k) [ inl there ↦ inl there | inr still ↦ inr (still true ∙ bare.0, still false ∙ bare.1) ]
+          ];
+        };
+        gained = λ k l at. rw weighted-push (omega (arith, counted true k, ap (λ u. gain_of coef * u) (are.often k l at), was.gained k l at));
+        lost = λ k l at. rw weighted-push (omega (arith, counted false k, ap (λ u. loss_of coef * u) (are.often k l at), was.lost k l at));
+      }
 
   -- one side grew
-  pub counted_more : {U E : Type 0} (r : Result U E) (b : Bool) (weight : ℕ) (c' : Counts) → added_to b coef ≡ weight → added_to (not b) coef ≡ 0 → side (not b) c' ≡ side (not b) c → HasCounts links c →
-      OnOk r (length (side b c') ≡ length links) →
-      OnOk r ((k : ℕ) (l : Link) → slice_get links k ≡ Some l → entry_at (side b c') k ≡ entry_at (side b c) k + weight * uses_of l path) →
-      OnOk r (All (λ k. k < length links) c.touched.items → All (λ k. k < length links) c'.touched.items) → OnOk r ((k : ℕ) → Contains c.touched.items k → Contains c'.touched.items k) →
+  pub counted_more : {U E : Type 0} (r : Result U E) (b : Bool) (weight : ℕ) (c' : Counts) → added_to b coef ≡ weight → added_to (not b) coef ≡ 0 → side (not b) c' ≡ side (not b) c →
+      OnOk r (length (side b c') ≡ length (side b c)) → OnOk r ((k : ℕ) → entry_at (side b c') k ≡ entry_at (side b c) k + weight * times k steps) →
+      OnOk r (All (λ k. k < length (side b c)) c.touched.items → All (λ k. k < length (side b c)) c'.touched.items) → OnOk r ((k : ℕ) → Contains c.touched.items k → Contains c'.touched.items k) →
       OnOk r ((k : ℕ) → Contains c'.touched.items k ⊎ (entry_at (side b c') k ≡ entry_at (side b c) k)) →
-      OnOk r ((terms : List (ℤ × List ℕ)) → IsCounted links terms c → IsCounted links (terms ++ (coef, path) ∷ []) c')
-  counted_more (Err e) b weight c' own other same held size counted inside kept touched = tt
-  counted_more (Ok u) b weight c' own other same held size counted inside kept touched =
-      both_more c' held (of_both (λ s. length (side s c') ≡ length links) b size (rw same (each_long links c (not b) held)))
-      (of_both (λ s. (k : ℕ) (l : Link) → slice_get links k ≡ Some l → entry_at (side s c') k ≡ entry_at (side s c) k + added_to s coef * uses_of l path) b
-      (λ k l at. rw own (counted k l at)) (λ k l at. rw (same, other) (omega arith)))
+      OnOk r ((links : List Link) (terms : List (ℤ × List ℕ)) (path : List ℕ) → AreSteps links path steps → IsCounted links terms c → IsCounted links (terms ++ (coef, path) ∷ []) c')
+  counted_more (Err e) b weight c' own other same size counted inside kept touched = tt
+  counted_more (Ok u) b weight c' own other same size counted inside kept touched =
+      both_more b c' (of_both (λ s. length (side s c') ≡ length (side s c)) b size (ap (λ xs. length xs) same))
+      (of_both (λ s. (k : ℕ) → entry_at (side s c') k ≡ entry_at (side s c) k + added_to s coef * times k steps) b (λ k. rw own (counted k)) (λ k. rw (same, other) (omega arith)))
       inside kept (λ k. elim (touched k) [ inl there ↦ inl there | inr still ↦ inr (of_both (λ s. entry_at (side s c') k ≡ entry_at (side s c) k) b still (rw same refl)) ])
 
 -- link k occurs twice where it is link i, and else zero times

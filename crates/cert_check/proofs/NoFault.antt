@@ -8,7 +8,7 @@ use Rattle.plan_form.specs.Good.{AreGoodPockets, AreGoodPaths, AreGoodRecipes}
 use Rattle.plan_form.specs.Order.{path_cmp}
 use Rattle.plan_form.specs.Parts.{PlanPocket}
 use Rattle.cert_check.specs.declared.report.Fault.TheVariants.{Names, Links, Must, Not, Monitor, Pocket, Path, Recipe}
-use Rattle.cert_check.specs.Faults.{AgreeAt, IsGoodPocketAt, IsGoodPathAt, IsGoodRecipeAt, path_at}
+use Rattle.cert_check.specs.Faults.{AgreeAt, IsGoodPocketAt, IsGoodPathAt, IsGoodRecipeAt}
 use Rattle.cert_check.specs.Laws.{GoodHasNoFault}
 use Rattle.cert_check.proofs.Chosen.{forced_at, barred_at}
 use Rattle.cert_check.proofs.Places.{ascending_at}

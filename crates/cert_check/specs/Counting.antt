@@ -1,9 +1,27 @@
 -- How often links occur in the paths of a recipe, as it is counted.
-use Rattle.std.specs.Prelude.{ℕ, ◌≡◌, ◌<◌, ◌⊎◌, List, ℤ, length, All, Contains, slice_get, Some}
+use Rattle.std.specs.Prelude.{ℕ, ◌≡◌, ◌<◌, ◌≤◌, ◌==◌, ◌⊎◌, List, [], ℤ, Vec, length, All, Contains, slice_get, slice_index_or, Some}
+use Rattle.std.specs.Global.{Global}
+use Rattle.std.specs.List.{sum_by}
 use Rattle.tomo_base.specs.declared.graph.Link.{Link}
 use Rattle.tomo_base.specs.Search.{entry_at}
-use Rattle.tomo_base.specs.Recipes.{gains, losses}
+use Rattle.tomo_base.specs.Sets.{one_if}
+use Rattle.tomo_base.specs.Recipes.{uses_of, gains, losses}
 use Rattle.cert_check.specs.declared.counts.Counts.{Counts}
+
+-- how often the number stands in the list
+abbrev pub times : ℕ → List ℕ → ℕ
+times k numbers = sum_by (λ j. one_if (k == j)) numbers
+
+-- the numbers of the links that a path runs over, each as often as it does
+pub record AreSteps (links : List Link) (path steps : List ℕ) : Type 0 where
+  pub in_links : All (λ k. k < length links) steps
+  pub short : length steps ≤ length path
+  pub often : (k : ℕ) (l : Link) → slice_get links k ≡ Some l → times k steps ≡ uses_of l path
+
+-- one list of steps for each path
+pub record AreStepsOfAll (links : List Link) (paths : List (List ℕ)) (all : List (Vec ℕ Global)) : Type 0 where
+  pub one_each : length all ≡ length paths
+  pub each : (i : ℕ) (steps : Vec ℕ Global) → slice_get all i ≡ Some steps → AreSteps links (slice_index_or paths i []) steps.items
 
 -- two counts for each link; where a link is not in the list of those touched, both are 0
 pub record HasCounts (links : List Link) (c : Counts) : Type 0 where

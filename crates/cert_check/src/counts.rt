@@ -1,11 +1,10 @@
 // How often links occur in the paths of a recipe.
-ghost use Rattle.std.specs.Prelude.{◌≡◌, ◌<◌, ◌≤◌, ◌+◌, ◌*◌, ◌^◌, ◌==◌, ◌↔◌, ◌⊎◌, ◌++◌, ◌∷◌, [], ℕ, List, ℤ, length, All, Contains, slice_get, Some, IfOk, OnOk, IsTrue, if◌then◌else◌};
+ghost use Rattle.std.specs.Prelude.{◌≡◌, ◌<◌, ◌≤◌, ◌+◌, ◌*◌, ◌^◌, ◌==◌, ◌↔◌, ◌⊎◌, ◌++◌, ◌∷◌, [], ℕ, List, ℤ, length, All, Contains, IfOk, OnOk, IsTrue, if◌then◌else◌};
 ghost use Rattle.tomo_base.specs.declared.graph.Link.{Link};
 ghost use Rattle.tomo_base.specs.Search.{entry_at};
-ghost use Rattle.tomo_base.specs.Walks.{IsWalk};
-ghost use Rattle.tomo_base.specs.Recipes.{uses_of, IsRecipe};
+ghost use Rattle.tomo_base.specs.Recipes.{IsRecipe};
 ghost use Rattle.plan_form.specs.Parts.{IsCoefficient};
-ghost use Rattle.cert_check.specs.Counting.{HasCounts, IsCounted};
+ghost use Rattle.cert_check.specs.Counting.{times, AreSteps, HasCounts, IsCounted};
 
 use std::alloc::{AllocFailed, Global};
 use tomo_base::{Graph, NoMemory};
@@ -18,33 +17,25 @@ pub struct Counts {
     pub touched: Vec<u32>,
 }
 
-// Adds the weight to the count of each link of a path.
-fn count_path(
-    g: &Graph,
-    path: &[u32],
+// Adds the weight to the count of each of the links.
+fn count_steps(
+    steps: &[u32],
     weight: u64,
     counts: &mut Vec<u64>,
     touched: &mut Vec<u32>,
 ) -> Result<(), AllocFailed<u32>>
-    requires size { length counts.old.items ≡ length g.now.links }
-    requires walk { IsWalk g.now path.now }
+    requires within { All (λ k. k < length counts.old.items) steps.now }
     requires light { weight ≤ 4 }
-    requires room { (k : ℕ) → entry_at counts.old.items k + 4 * length path.now < 2 ^ 63 }
-    ensures size { OnOk result (length counts.new.items ≡ length g.now.links) }
-    ensures counted { OnOk result ((k : ℕ) (l : Link) → slice_get g.now.links k ≡ Some l → entry_at counts.new.items k ≡ entry_at counts.old.items k + weight * uses_of l path.now) }
-    ensures links { OnOk result (All (λ k. k < length g.now.links) touched.old.items → All (λ k. k < length g.now.links) touched.new.items) }
+    requires room { (k : ℕ) → entry_at counts.old.items k + 4 * length steps.now < 2 ^ 63 }
+    ensures size { OnOk result (length counts.new.items ≡ length counts.old.items) }
+    ensures counted { OnOk result ((k : ℕ) → entry_at counts.new.items k ≡ entry_at counts.old.items k + weight * times k steps.now) }
+    ensures links { OnOk result (All (λ k. k < length counts.old.items) touched.old.items → All (λ k. k < length counts.old.items) touched.new.items) }
     ensures kept { OnOk result ((k : ℕ) → Contains touched.old.items k → Contains touched.new.items k) }
     ensures touched { OnOk result ((k : ℕ) → Contains touched.new.items k ⊎ (entry_at counts.new.items k ≡ entry_at counts.old.items k)) }
 {
-    let _nodes = g.nodes();
-    for i in 1..path.len() {
-        match g.between(path[i - 1], path[i]) {
-            Some(link) => {
-                counts[link as usize] += weight;
-                touched.push(link)?;
-            }
-            None => unreachable!(),
-        }
+    for &link in steps {
+        counts[link as usize] += weight;
+        touched.push(link)?;
     }
     Ok(())
 }
@@ -62,19 +53,19 @@ impl Counts {
         })
     }
 
-    // Adds the links of a path with a coefficient.
-    pub fn add(&mut self, g: &Graph, path: &[u32], coef: i8) -> Result<(), AllocFailed<u32>>
-        requires counts { HasCounts g.now.links self.old }
+    // Adds the links of a path, given by its steps, with a coefficient.
+    pub fn add(&mut self, steps: &[u32], coef: i8) -> Result<(), AllocFailed<u32>>
+        requires gains { All (λ k. k < length self.old.gains.items) steps.now }
+        requires losses { All (λ k. k < length self.old.losses.items) steps.now }
         requires coefficient { IsCoefficient coef }
-        requires walk { IsWalk g.now path.now }
-        requires room { (k : ℕ) → (entry_at self.old.gains.items k + 4 * length path.now < 2 ^ 63) × (entry_at self.old.losses.items k + 4 * length path.now < 2 ^ 63) }
-        ensures { OnOk result ((terms : List (ℤ × List ℕ)) → IsCounted g.now.links terms self.old → IsCounted g.now.links (terms ++ (coef, path.now) ∷ []) self.new) }
+        requires room { (k : ℕ) → (entry_at self.old.gains.items k + 4 * length steps.now < 2 ^ 63) × (entry_at self.old.losses.items k + 4 * length steps.now < 2 ^ 63) }
+        ensures { OnOk result ((links : List Link) (terms : List (ℤ × List ℕ)) (path : List ℕ) → AreSteps links path steps.now → IsCounted links terms self.old → IsCounted links (terms ++ (coef, path) ∷ []) self.new) }
     {
         let weight = u64::from(coef.unsigned_abs());
         if coef > 0 {
-            count_path(g, path, weight, &mut self.gains, &mut self.touched)
+            count_steps(steps, weight, &mut self.gains, &mut self.touched)
         } else {
-            count_path(g, path, weight, &mut self.losses, &mut self.touched)
+            count_steps(steps, weight, &mut self.losses, &mut self.touched)
         }
     }
 

@@ -10,6 +10,7 @@ mod paths;
 mod pockets;
 mod recipes;
 mod report;
+mod steps;
 
 pub use checking::check;
 pub use report::{Fault, Report};

@@ -5,9 +5,10 @@ ghost use Rattle.simple_path.specs.Terms.{path_terms};
 ghost use Rattle.plan_form.specs.Parts.{IsTermList};
 ghost use Rattle.plan_form.specs.Good.{IsGoodRecipe};
 ghost use Rattle.cert_check.specs.Faults.{IsFirstWithout, IsGoodRecipeAt};
-ghost use Rattle.cert_check.specs.Counting.{IsCounted};
+ghost use Rattle.cert_check.specs.Counting.{AreStepsOfAll, IsCounted};
 
 use crate::counts::Counts;
+use crate::steps::steps_of_all;
 use simple_path::{PathPool, Recipes, Term};
 use std::alloc::{AllocFailed, Global};
 use tomo_base::{Graph, NoMemory};
@@ -31,18 +32,19 @@ fn name_paths(terms: &[Term], count: u32) -> bool
 fn count_terms(
     g: &Graph,
     paths: &PathPool,
+    steps: &[Vec<u32>],
     terms: &[Term],
     counts: &mut Counts,
 ) -> Result<(), AllocFailed<u32>>
     requires bare { IsCounted g.now.links [] counts.old }
-    requires walks { All (IsWalk g.now) paths.now }
+    requires steps { AreStepsOfAll g.now.links paths.now steps.now }
     requires names { All (λ t. t.path < length paths.now) terms.now }
     requires formed { IsTermList terms.now }
     ensures { OnOk result (IsCounted g.now.links (path_terms paths.now terms.now) counts.new) }
 {
     let _paths = paths.len();
     for term in terms {
-        counts.add(g, paths.path(term.path), term.coef)?;
+        counts.add(&steps[term.path as usize], term.coef)?;
     }
     Ok(())
 }
@@ -51,13 +53,14 @@ fn count_terms(
 fn is_good_recipe(
     g: &Graph,
     paths: &PathPool,
+    steps: &[Vec<u32>],
     terms: &[Term],
     i: u32,
     counts: &mut Counts,
 ) -> Result<bool, NoMemory>
     requires link { i < length g.now.links }
     requires bare { IsCounted g.now.links [] counts.old }
-    requires walks { All (IsWalk g.now) paths.now }
+    requires steps { AreStepsOfAll g.now.links paths.now steps.now }
     requires formed { IsTermList terms.now }
     ensures good { IfOk result (λ good. IsTrue good ↔ IsGoodRecipe g.now paths.now i terms.now) }
     ensures bare { OnOk result (IsCounted g.now.links [] counts.new) }
@@ -65,14 +68,14 @@ fn is_good_recipe(
     if !name_paths(terms, paths.len()) {
         return Ok(false);
     }
-    count_terms(g, paths, terms, counts)?;
+    count_terms(g, paths, steps, terms, counts)?;
     let good = counts.is_recipe(g, i);
     counts.clear(g);
     Ok(good)
 }
 
-// The first number that is not both a link's and that of a good recipe for it. Time is linear in the nodes of the paths that the recipes
-// name, but for the look-up of links.
+// The first number that is not both a link's and that of a good recipe for it. Each link of each path is looked up once; then time is linear
+// in the links of the paths that the recipes name.
 pub fn first_bad_recipe(
     alloc: Global,
     g: &Graph,
@@ -88,10 +91,11 @@ pub fn first_bad_recipe(
 {
     let links = g.links().len() as u32;
     let both = links.min(recipes.len());
+    let steps = steps_of_all(alloc, g, paths)?;
     let mut counts = Counts::new(alloc, g)?;
     for i in 0..both {
         let terms = recipes.at(i).terms();
-        if !is_good_recipe(g, paths, terms, i, &mut counts)? {
+        if !is_good_recipe(g, paths, &steps, terms, i, &mut counts)? {
             return Ok(Some(i));
         }
     }

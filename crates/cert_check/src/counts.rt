@@ -4,7 +4,7 @@ ghost use Rattle.tomo_base.specs.declared.graph.Link.{Link};
 ghost use Rattle.tomo_base.specs.Search.{entry_at};
 ghost use Rattle.tomo_base.specs.Recipes.{IsRecipe};
 ghost use Rattle.plan_form.specs.Parts.{IsCoefficient};
-ghost use Rattle.cert_check.specs.Counting.{times, AreSteps, HasCounts, IsCounted};
+ghost use Rattle.cert_check.specs.Counting.{AreBelow, HasRoomForSteps, IsRaisedBy, CountsTerm, HasCounts, IsCounted};
 
 use std::alloc::{AllocFailed, Global};
 use tomo_base::{Graph, NoMemory};
@@ -24,12 +24,12 @@ fn count_steps(
     counts: &mut Vec<u64>,
     touched: &mut Vec<u32>,
 ) -> Result<(), AllocFailed<u32>>
-    requires within { All (λ k. k < length counts.old.items) steps.now }
+    requires within { AreBelow (length counts.old.items) steps.now }
     requires light { weight ≤ 4 }
-    requires room { (k : ℕ) → entry_at counts.old.items k + 4 * length steps.now < 2 ^ 63 }
+    requires room { HasRoomForSteps steps.now counts.old.items }
     ensures size { OnOk result (length counts.new.items ≡ length counts.old.items) }
-    ensures counted { OnOk result ((k : ℕ) → entry_at counts.new.items k ≡ entry_at counts.old.items k + weight * times k steps.now) }
-    ensures links { OnOk result (All (λ k. k < length counts.old.items) touched.old.items → All (λ k. k < length counts.old.items) touched.new.items) }
+    ensures counted { OnOk result (IsRaisedBy weight steps.now counts.old.items counts.new.items) }
+    ensures links { OnOk result (AreBelow (length counts.old.items) touched.old.items → AreBelow (length counts.old.items) touched.new.items) }
     ensures kept { OnOk result ((k : ℕ) → Contains touched.old.items k → Contains touched.new.items k) }
     ensures touched { OnOk result ((k : ℕ) → Contains touched.new.items k ⊎ (entry_at counts.new.items k ≡ entry_at counts.old.items k)) }
 {
@@ -55,11 +55,12 @@ impl Counts {
 
     // Adds the links of a path, given by its steps, with a coefficient.
     pub fn add(&mut self, steps: &[u32], coef: i8) -> Result<(), AllocFailed<u32>>
-        requires gains { All (λ k. k < length self.old.gains.items) steps.now }
-        requires losses { All (λ k. k < length self.old.losses.items) steps.now }
+        requires gains { AreBelow (length self.old.gains.items) steps.now }
+        requires losses { AreBelow (length self.old.losses.items) steps.now }
         requires coefficient { IsCoefficient coef }
-        requires room { (k : ℕ) → (entry_at self.old.gains.items k + 4 * length steps.now < 2 ^ 63) × (entry_at self.old.losses.items k + 4 * length steps.now < 2 ^ 63) }
-        ensures { OnOk result ((links : List Link) (terms : List (ℤ × List ℕ)) (path : List ℕ) → AreSteps links path steps.now → IsCounted links terms self.old → IsCounted links (terms ++ (coef, path) ∷ []) self.new) }
+        requires gain_room { HasRoomForSteps steps.now self.old.gains.items }
+        requires loss_room { HasRoomForSteps steps.now self.old.losses.items }
+        ensures { OnOk result (CountsTerm coef steps.now self.old self.new) }
     {
         let weight = u64::from(coef.unsigned_abs());
         if coef > 0 {

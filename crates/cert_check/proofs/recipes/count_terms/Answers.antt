@@ -1,7 +1,8 @@
-use Rattle.std.proofs.Common.{[], pos, take, get_or, arith}
+use Rattle.std.proofs.Common.{ℕ, ◌<◌, ◌+◌, ◌*◌, ◌^◌, length, [], pos, take, get_or, arith}
 use Rattle.std.proofs.lemmas.List.{take_more}
 use Rattle.simple_path.specs.declared.recipe.Term.{Term}
 use Rattle.simple_path.specs.Terms.{path_terms}
+use Rattle.tomo_base.specs.Search.{entry_at}
 use Rattle.cert_check.specs.Counting.{AreSteps}
 use Rattle.cert_check.proofs.Uses.{steps_at}
 use Rattle.cert_check.proofs.Balances.{room_left, terms_more, coefficients, byte_same}
@@ -21,11 +22,19 @@ add-requires-clause-gains c = rw c.loop-term.invariant.has.gain_each (read c).in
 pub add-requires-clause-losses : goal.add-requires-clause-losses
 add-requires-clause-losses c = rw c.loop-term.invariant.has.loss_each (read c).in_links
 
-pub add-requires-clause-room : goal.add-requires-clause-room
-add-requires-clause-room c = λ k.
+-- there is room for the path
+room : (c : goal.After-add-arg-in-loop-term-1) → (k : ℕ) → (entry_at c.loop-term.counts.gains.items k + 4 * length c.deref.result.now < 2 ^ 63) × (entry_at c.loop-term.counts.losses.items k + 4 * length c.deref.result.now < 2 ^ 63)
+room c k =
     let few = coefficients c.args.terms.now c.requires.formed.2 in
-    let room = room_left c.args.g.now.links c.args.paths.now c.args.terms.now c.loop-term.term-index (get_or c.args.terms.now c.loop-term.term-index none).path c.loop-term.counts c.requires.formed.1 few c.len-paths.ensures.few_nodes c.loop-term.invariant k in
-    (omega (arith, room.0, (read c).short), omega (arith, room.1, (read c).short))
+    let path = (get_or c.args.terms.now c.loop-term.term-index none).path in
+    let left = room_left c.args.g.now.links c.args.paths.now c.args.terms.now c.loop-term.term-index path c.loop-term.counts c.requires.formed.1 few c.len-paths.ensures.few_nodes c.loop-term.invariant k in
+    (omega (arith, left.0, (read c).short), omega (arith, left.1, (read c).short))
+
+pub add-requires-clause-gain_room : goal.add-requires-clause-gain_room
+add-requires-clause-gain_room c = λ k. (room c k).0
+
+pub add-requires-clause-loss_room : goal.add-requires-clause-loss_room
+add-requires-clause-loss_room c = λ k. (room c k).1
 
 pub loop-term-preserved : goal.loop-term-preserved
 loop-term-preserved c =

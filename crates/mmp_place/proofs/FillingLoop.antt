@@ -5,7 +5,7 @@ use Rattle.std.proofs.lemmas.Bool.{cases_Bool, cases_lt, both_ways, and_parts, e
 use Rattle.tomo_base.specs.Network.{Network}
 use Rattle.tomo_base.specs.Sets.{one_if, count, size, has, meet, touches, complement}
 use Rattle.std.proofs.lemmas.List.{take_more, take_all}
-use Rattle.tomo_base.proofs.Counts.{count-same}
+use Rattle.tomo_base.proofs.Counts.{count-mono, count-same}
 use Rattle.tomo_base.proofs.Ascending.{has-at}
 use Rattle.mmp_place.specs.Rule.{counting, wanting, idle, filled, filled_each}
 use Rattle.mmp_place.proofs.Prefixes.{prefix_new, prefix_more, prefix_count_more, prefix_count_none, prefix_count, prefix_all}
@@ -136,6 +136,19 @@ pub counted_more : (g : Network) (xs : List ℕ) (m : ℕ → Bool) (i counted v
 counted_more g xs m i counted v b up below l is counts so_far =
     let at : counting g (has xs) m (get_or xs i 0) ≡ b = ap (λ a. a && (m (get_or xs i 0) || touches g (complement (has xs)) (get_or xs i 0))) (has-at xs i 0 l) ∙ sym (subst (λ z. b ≡ (m z || touches g (complement (has xs)) z)) is counts) in
     omega (arith, so_far, prefix_count_more g.nodes xs i (counting g (has xs) m) up below l, ap one_if at)
+
+-- those so far are no more than all
+pub counted_within : (g : Network) (xs : List ℕ) (m : ℕ → Bool) (i : ℕ) → size g (meet (has (take i xs)) (counting g (has xs) m)) ≤ size g (counting g (has xs) m)
+counted_within g xs m i = count-mono g.nodes (meet (has (take i xs)) (counting g (has xs) m)) (counting g (has xs) m) (λ v l h. (and_parts (has (take i xs) v) (counting g (has xs) m v) h).1)
+
+-- where three nodes count, the set is filled
+pub filled_as_is : (g : Network) (xs : List ℕ) (m : ℕ → Bool) (v : ℕ) → 3 ≤ size g (counting g (has xs) m) → m v ≡ filled g (has xs) m v
+filled_as_is g xs m v three = none_more (m v) (idle g (has xs) m v) (le-ltb (count v (idle g (has xs) m)) (wanting g (has xs) m) (omega (arith, three)))
+  where
+    none_more : (a b : Bool) {c : Bool} → c ≡ false → a ≡ (a || (b && c))
+    none_more true b e = refl
+    none_more false true e = sym e
+    none_more false false e = refl
 
 -- at last all of them are counted
 pub counted_all : (g : Network) (xs : List ℕ) (m : ℕ → Bool) (i counted : ℕ) → length xs ≤ i → counted ≡ size g (meet (has (take i xs)) (counting g (has xs) m)) → counted ≡ size g (counting g (has xs) m)

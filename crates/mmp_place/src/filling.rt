@@ -1,5 +1,5 @@
 // Filling sets with monitors until three nodes of each count.
-ghost use Rattle.std.specs.Prelude.{◌≡◌, ◌<◌, ◌||◌, ℕ, All, OnOk, not};
+ghost use Rattle.std.specs.Prelude.{◌≡◌, ◌<◌, ◌||◌, ℕ, min, All, OnOk, not};
 ghost use Rattle.std.specs.List.{list_any};
 ghost use Rattle.tomo_base.specs.Sets.{has, size, touches, complement};
 ghost use Rattle.tomo_base.specs.SetLists.{IsSetBelow};
@@ -23,28 +23,34 @@ fn counts(g: &Graph, set: &NodeSet, m: &NodeSet, v: u32) -> bool
     m.has(v) || leads_out(g.hops(v), set)
 }
 
-// How many nodes of the set count.
+// How many nodes of the set count; three, where there are more.
 fn how_many_count(g: &Graph, set: &NodeSet, m: &NodeSet) -> u32
     requires { All (λ v. v < g.now.nodes) set.now }
-    ensures { result ≡ size g.now (counting g.now (has set.now) (has m.now)) }
+    ensures { result ≡ min 3 (size g.now (counting g.now (has set.now) (has m.now))) }
 {
-    let _nodes = g.nodes();
     let mut counted = 0;
     for &v in set.as_slice() {
         if counts(g, set, m, v) {
             counted += 1;
+            if counted == 3 {
+                return 3;
+            }
         }
     }
     counted
 }
 
 /// Fills a set: adds its least nodes that do not count to the monitors, until three nodes of the set count or all are monitors.
-/// Each node is asked until a neighbour outside the set is found, so the time is that of the links inside the set.
+/// Each node is asked until a neighbour outside the set is found, and none is once three count, so the time is at most that of the links
+/// inside the set.
 pub fn fill(g: &Graph, set: &NodeSet, m: &mut NodeSet) -> Result<(), NoMemory>
     requires { All (λ v. v < g.now.nodes) set.now }
     ensures { OnOk result ((v : ℕ) → has m.new v ≡ filled g.now (has set.now) (has m.old) v) }
 {
     let mut counted = how_many_count(g, set, m);
+    if counted == 3 {
+        return Ok(());
+    }
     for &v in set.as_slice() {
         if counted < 3 && !counts(g, set, m, v) {
             m.insert(v)?;

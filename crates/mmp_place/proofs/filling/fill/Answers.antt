@@ -1,11 +1,14 @@
-use Rattle.std.proofs.Common.{◌≡◌, ◌<◌, ap, sym, ◌∙◌, length, get_or, subst}
+use Rattle.std.proofs.Common.{◌≡◌, ◌<◌, ap, sym, ◌∙◌, arith, length, get_or, subst}
 use Rattle.tomo_base.specs.Sets.{has}
-use Rattle.mmp_place.proofs.FillingLoop.{filled_to_none, filled_enough, filled_counting, filled_more}
+use Rattle.mmp_place.proofs.FillingLoop.{filled_as_is, filled_to_none, filled_enough, filled_counting, filled_more}
 use Rattle.mmp_place.proofs.filling.fill.Goals as goal
 use Rattle.mmp_place.proofs.filling.fill.Goals.{then-counted-lt3+then-not-counts+in_ok-insert, else-counted-lt3, else-counted-lt3-via-then-counted-lt3+else-not-counts, else-counted-lt3-via-else-counted-lt3}
 
 pub loop-v-init : goal.loop-v-init
-loop-v-init c = filled_to_none c.args.g.now c.args.set.now (has c.args.m.now) c.as_slice-v-items.ensures.ascending c.requires c.how_many_count-counted.result c.how_many_count-counted.ensures
+loop-v-init c = filled_to_none c.args.g.now c.args.set.now (has c.args.m.now) c.as_slice-v-items.ensures.ascending c.requires c.how_many_count-counted.result (omega (arith, c.how_many_count-counted.ensures, c.if-counted-eq3.false))
+
+pub returns-then-counted-eq3 : goal.returns-then-counted-eq3
+returns-then-counted-eq3 c v = filled_as_is c.args.g.now c.args.set.now (has c.args.m.now) v (omega (arith, c.how_many_count-counted.ensures, c.if-counted-eq3.true))
 
 pub loop-v-preserved : goal.loop-v-preserved
 loop-v-preserved c =

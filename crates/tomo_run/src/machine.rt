@@ -19,7 +19,6 @@ use cert_check::{Report, check};
 use outside::Got;
 use plan_form::{Plan, read_plan};
 use round_reader::read_rounds;
-use rows::laws::{fields_are_no_longer_than_their_text, rows_are_no_more_than_bytes};
 use rows::{Rows, read_rows};
 use std::alloc::Global;
 use tomo_base::NoMemory;
@@ -223,8 +222,6 @@ fn take_in(alloc: Global, wants: Wants, name: &str, content: Vec<u8>) -> Taken
     ensures taken { IfOk result (λ next. Takes wants name.now (rows_of content.items) next) }
     ensures fewer { IfOk result (λ next. Fewer (files_left wants) next) }
 {
-    fields_are_no_longer_than_their_text();
-    rows_are_no_more_than_bytes();
     let rows = read_rows(alloc, &content)?;
     drop(content);
     match wants {

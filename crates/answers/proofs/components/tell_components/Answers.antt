@@ -1,4 +1,4 @@
-use Rattle.std.proofs.Common.{◌≡◌, ◌≤◌, ◌*◌, length, get_or, arith, refl, ap, subst, map, ℕ, List}
+use Rattle.std.proofs.Common.{◌≡◌, ◌≤◌, ◌*◌, length, get_or, arith, refl, ap, subst, map}
 use Rattle.tomo_base.specs.Limits.{graph_node_limit}
 use Rattle.tomo_base.specs.Network.{Network}
 use Rattle.tomo_base.proofs.Ascending.{length-node_set}

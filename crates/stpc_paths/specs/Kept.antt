@@ -4,7 +4,7 @@ use Rattle.tomo_base.specs.declared.graph.Link.{Link}
 use Rattle.tomo_base.specs.Limits.{graph_link_limit, graph_node_limit}
 use Rattle.tomo_base.specs.Network.{Network, IsGraph}
 use Rattle.tomo_base.specs.Sets.{has}
-use Rattle.tomo_base.specs.Search.{entry_at}
+use Rattle.tomo_base.specs.Search.{entry_at, mark_of}
 use Rattle.simple_path.specs.declared.recipe.Term.{Term}
 use Rattle.cross_links.specs.Joining.{turned_onto}
 use Rattle.indep_trees.specs.Trees.{Climbs, AreTrees, Trees, parent_in, rank_in}
@@ -21,6 +21,11 @@ monitor_in t = has t.monitors
 pub record IsForest (t : Trees) : Type 0 where
   pub graph : IsGraph t.graph
   pub trees : AreTrees t
+
+-- one mark for each node: that it is a monitor
+pub record MarksMonitors (t : Trees) (marks : List Bool) : Type 0 where
+  pub size : length marks ≡ t.graph.nodes
+  pub each : (v : ℕ) → v < t.graph.nodes → mark_of marks v ≡ monitor_in t v
 
 -- each of the links has its root
 pub record AreRoots (t : Trees) (links : List Link) (roots : List Root) : Type 0 where

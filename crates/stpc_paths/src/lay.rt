@@ -19,8 +19,8 @@ use tomo_base::{Graph, NoMemory, NodeSet};
 ///
 /// A link between a node and a parent has a path of the node: up that tree, and up the next one. Where the two name each other, so that
 /// their paths are the same, it is that of the one whose parent does not name it in the next tree. Each other link has the path over
-/// itself, down the first tree and up the second. Time is linear in the nodes of all paths, but for the search of a node among the
-/// monitors at each. After want of memory the pool is empty.
+/// itself, down the first tree and up the second. Time is linear in the nodes of all paths, but for a few
+/// searches of a node among the monitors for each node and each link. After want of memory the pool is empty.
 pub fn stpc(
     alloc: Global,
     g: &Graph,

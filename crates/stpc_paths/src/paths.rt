@@ -1,10 +1,12 @@
 // The path of each link.
-ghost use Rattle.std.specs.Prelude.{ℕ, ◌≡◌, ◌<◌, ◌≤◌, ◌*◌, ◌++◌, [], ◌∷◌, List, length, OnOk, slice_index_or};
+ghost use Rattle.std.specs.Prelude.{ℕ, ◌≡◌, ◌<◌, ◌≤◌, ◌*◌, ◌++◌, [], ◌∷◌, List, length, IfOk, OnOk, slice_index_or};
 ghost use Rattle.tomo_base.specs.Limits.{graph_node_limit};
+ghost use Rattle.tomo_base.specs.Search.{mark_of};
+ghost use Rattle.tomo_base.specs.Sets.{has};
 ghost use Rattle.simple_path.specs.Pools.{nodes_in};
 ghost use Rattle.indep_trees.specs.Trees.{Climbs, IsFree, parent_in, rank_in};
 ghost use Rattle.stpc_paths.specs.Roots.{tree_of, second_start, IsOwned};
-ghost use Rattle.stpc_paths.specs.Kept.{IsForest, monitor_in, AreRooted, IsPathOf, ArePathsOf};
+ghost use Rattle.stpc_paths.specs.Kept.{IsForest, MarksMonitors, monitor_in, AreRooted, IsPathOf, ArePathsOf};
 
 use crate::roots::{Root, next_tree, parent_of};
 use indep_trees::IndepTrees;
@@ -12,9 +14,21 @@ use simple_path::PathPool;
 use std::alloc::Global;
 use tomo_base::{NoMemory, NodeSet};
 
+// One mark for each node: that it is a monitor.
+fn monitor_marks(alloc: Global, m: &NodeSet, nodes: u32) -> Result<Vec<bool>, NoMemory>
+    ensures size { IfOk result (λ marks. length marks.items ≡ nodes) }
+    ensures each { IfOk result (λ marks. (v : ℕ) → v < nodes → mark_of marks.items v ≡ has m.now v) }
+{
+    let mut marks = Vec::new(alloc);
+    for v in 0..nodes {
+        marks.push(m.has(v))?;
+    }
+    Ok(marks)
+}
+
 // Adds the path of a node in a tree: the node, its parent, and so on up to the first monitor.
 fn climb(
-    m: &NodeSet,
+    monitors: &[bool],
     t: &IndepTrees,
     nodes: u32,
     tree: u32,
@@ -22,7 +36,7 @@ fn climb(
     out: &mut Vec<u32>,
 ) -> Result<(), NoMemory>
     requires forest { IsForest t.now }
-    requires monitors { m.now ≡ t.now.monitors }
+    requires monitors { MarksMonitors t.now monitors.now }
     requires nodes { nodes ≡ t.now.graph.nodes }
     requires tree { tree < 3 }
     requires node { from < t.now.graph.nodes }
@@ -31,7 +45,7 @@ fn climb(
     let mut node = from;
     for _ in 0..nodes {
         out.push(node)?;
-        if m.has(node) {
+        if monitors[node as usize] {
             return Ok(());
         }
         node = parent_of(t, tree, node);
@@ -71,14 +85,14 @@ fn start_of(t: &IndepTrees, root: Root) -> Start
 
 // Makes the list the path of the link with this root: up one tree from the node, turned round, and then up the next.
 fn path_into(
-    m: &NodeSet,
+    monitors: &[bool],
     t: &IndepTrees,
     nodes: u32,
     root: Root,
     path: &mut Vec<u32>,
 ) -> Result<(), NoMemory>
     requires forest { IsForest t.now }
-    requires monitors { m.now ≡ t.now.monitors }
+    requires monitors { MarksMonitors t.now monitors.now }
     requires nodes { nodes ≡ t.now.graph.nodes }
     requires node { root.node < t.now.graph.nodes }
     requires other { root.other < t.now.graph.nodes }
@@ -87,9 +101,16 @@ fn path_into(
 {
     let start = start_of(t, root);
     path.clear();
-    climb(m, t, nodes, start.tree, root.node, path)?;
+    climb(monitors, t, nodes, start.tree, root.node, path)?;
     path.reverse();
-    climb(m, t, nodes, next_tree(start.tree), start.second, path)?;
+    climb(
+        monitors,
+        t,
+        nodes,
+        next_tree(start.tree),
+        start.second,
+        path,
+    )?;
     Ok(())
 }
 
@@ -107,9 +128,10 @@ pub fn lay_paths(
     requires empty { pool.old ≡ [] }
     ensures { OnOk result (ArePathsOf t.now roots.now pool.new) }
 {
+    let monitors = monitor_marks(alloc, m, nodes)?;
     let mut path = Vec::new(alloc);
     for root in roots {
-        path_into(m, t, nodes, *root, &mut path)?;
+        path_into(&monitors, t, nodes, *root, &mut path)?;
         pool.add(&path)?;
     }
     Ok(())

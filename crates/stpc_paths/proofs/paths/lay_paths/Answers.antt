@@ -13,12 +13,12 @@ path_into-requires-clause-owned c = (root_link c.args.t.now c.args.roots.now c.l
 
 pub add-requires-clause-nodes : goal.add-requires-clause-nodes
 add-requires-clause-nodes c =
-    rw c.deref.ensures.value (paths_room c.args.t.now c.args.roots.now c.loop-root.root-index c.loop-root.pool c.path_into.new.path.items _ c.requires.rooted.forest (omega (arith, c.requires.nodes, c.requires.rooted.few_nodes)) c.requires.rooted.few_roots c.requires.rooted.roots
+    rw c.deref-in-loop-root.ensures.value (paths_room c.args.t.now c.args.roots.now c.loop-root.root-index c.loop-root.pool c.path_into.new.path.items _ c.requires.rooted.forest (omega (arith, c.requires.nodes, c.requires.rooted.few_nodes)) c.requires.rooted.few_roots c.requires.rooted.roots
     c.loop-root-test.true c.in_ok-path_into.ensures c.loop-root.invariant)
 
 pub loop-root-preserved : goal.loop-root-preserved
 loop-root-preserved c =
-    rw (c.in_ok-add.ensures.ok, c.deref.ensures.value) (paths_more c.args.t.now c.args.roots.now c.loop-root.root-index c.loop-root.pool c.path_into.new.path.items _ c.requires.rooted.forest (omega (arith, c.requires.nodes, c.requires.rooted.few_nodes)) c.requires.rooted.roots
+    rw (c.in_ok-add.ensures.ok, c.deref-in-loop-root.ensures.value) (paths_more c.args.t.now c.args.roots.now c.loop-root.root-index c.loop-root.pool c.path_into.new.path.items _ c.requires.rooted.forest (omega (arith, c.requires.nodes, c.requires.rooted.few_nodes)) c.requires.rooted.roots
     c.loop-root-test.true c.in_ok-path_into.ensures c.loop-root.invariant)
 
 pub returns : goal.returns

@@ -45,12 +45,13 @@ fn next_over(
 }
 
 // Goes on with a way until it can end at a node of an ear other than its first, which is answered. None where it cannot go on, or
-// cannot end after sixteen nodes.
+// cannot end after so many nodes.
 fn extend_way(
     g: &Graph,
     old: &[bool],
     rank: &[u32],
     u: u32,
+    limit: u32,
     gone: &mut Vec<bool>,
     way: &mut Vec<u32>,
 ) -> Result<Option<u32>, AllocError>
@@ -63,10 +64,13 @@ fn extend_way(
     ensures end { IfOk result (λ o. IfSome o (EndsAt g.now (mark_of old.now) way.new.items)) }
 {
     let _nodes = g.nodes();
-    for _ in 0..16 {
+    for i in 0..limit {
         let end = way[way.len() - 1];
         if let Some(last) = near(g, end, old, way[0]) {
             return Ok(Some(last));
+        }
+        if i + 1 == limit {
+            return Ok(None);
         }
         let Some(w) = next_over(g, old, gone, rank, u, end, way[0]) else {
             return Ok(None);
@@ -77,14 +81,16 @@ fn extend_way(
     Ok(None)
 }
 
-// An easy ear whose second node is v. None where none was found, or where v is `u` or stands in an ear. `gone` are the marks of the
-// nodes in ears; where there is an ear its nodes are marked there. It costs the links around each node that is tried.
+// An easy ear whose second node is v, with at most so many nodes between its ends. None where none was found, or where v is `u` or stands
+// in an ear. `gone` are the marks of the nodes in ears; where there is an ear its nodes are marked there. It costs the links around each
+// node that is tried.
 fn easy(
     alloc: Global,
     g: &Graph,
     old: &[bool],
     rank: &[u32],
     u: u32,
+    limit: u32,
     gone: &mut Vec<bool>,
     v: u32,
 ) -> Result<Option<Vec<u32>>, AllocError>
@@ -111,7 +117,7 @@ fn easy(
     }
     let mut way = [first, v].to_vec(alloc)?;
     gone[v as usize] = true;
-    let end = extend_way(g, old, rank, u, gone, &mut way)?;
+    let end = extend_way(g, old, rank, u, limit, gone, &mut way)?;
     if let Some(last) = end
         && all_can_go(g, gone, rank, &way)
     {
@@ -122,20 +128,22 @@ fn easy(
     Ok(None)
 }
 
-/// An easy ear, and the place in a list of the node from which it was found.
+// An easy ear, and the place in a list of the node from which it was found.
 #[derive(Drop)]
-pub struct Found {
-    pub place: usize,
-    pub ear: Vec<u32>,
+struct Found {
+    place: usize,
+    ear: Vec<u32>,
 }
 
-/// An easy ear over the first node of the list, from a place on, that has one; its nodes are marked in `gone`.
-pub fn first_easy(
+// An easy ear with at most so many nodes between its ends, over the first node of the list, from a place on, that has one; its nodes are
+// marked in `gone`.
+fn first_easy(
     alloc: Global,
     g: &Graph,
     old: &[bool],
     rank: &[u32],
     u: u32,
+    limit: u32,
     gone: &mut Vec<bool>,
     nodes: &[u32],
     from: usize,
@@ -151,11 +159,75 @@ pub fn first_easy(
     ensures place { IfOk result (λ o. IfSome o (λ f. f.place < length nodes.now)) }
     ensures ear { IfOk result (λ o. IfSome o (λ f. IsEasy g.now (mark_of old.now) (entry_at rank.now) u f.ear.items)) }
     ensures some { IfOk result (λ o. IfSome o (λ f. (w : ℕ) → mark_of gone.new.items w ≡ with_ear (mark_of old.now) f.ear.items w)) }
+    ensures none { IfOk result (λ o. IfNone o ((w : ℕ) → mark_of gone.new.items w ≡ mark_of old.now w)) }
 {
     for place in from..nodes.len() {
-        if let Some(ear) = easy(alloc, g, old, rank, u, gone, nodes[place])? {
+        if let Some(ear) = easy(alloc, g, old, rank, u, limit, gone, nodes[place])? {
             return Ok(Some(Found { place, ear }));
         }
+    }
+    Ok(None)
+}
+
+/// The nodes that are asked for easy ears, and how many of them were.
+#[derive(Drop)]
+pub struct Asked {
+    /// Neighbours of nodes in ears, as these were taken.
+    pub near: Vec<u32>,
+    /// All nodes that were left at first.
+    pub all: Vec<u32>,
+    /// How many of the neighbours were asked for an ear with a single node between its ends.
+    pub for_one: usize,
+    /// How many of them were asked for a longer ear.
+    pub for_more: usize,
+    /// How many of all nodes were asked.
+    pub of_all: usize,
+}
+
+// So many nodes at most stand between the ends of an easy ear.
+const LONGEST: u32 = 16;
+
+/// The next easy ear; its nodes are marked in `gone`. The neighbours of ears are asked first, those that have waited longest before the
+/// others, and for ears with a single node as long as there are some, so that few steps lead from a node along ears to the ends of the first.
+pub fn next_easy(
+    alloc: Global,
+    g: &Graph,
+    old: &[bool],
+    rank: &[u32],
+    u: u32,
+    gone: &mut Vec<bool>,
+    asked: &mut Asked,
+) -> Result<Option<Vec<u32>>, AllocError>
+    requires near { All (λ v. v < g.now.nodes) asked.old.near.items }
+    requires all { All (λ v. v < g.now.nodes) asked.old.all.items }
+    requires third { mark_of old.now u ≡ false }
+    requires old { length old.now ≡ g.now.nodes }
+    requires gone { length gone.old.items ≡ g.now.nodes }
+    requires ranks { length rank.now ≡ g.now.nodes }
+    requires founded { IsFounded g.now (mark_of old.now) (entry_at rank.now) u }
+    requires same { (w : ℕ) → mark_of gone.old.items w ≡ mark_of old.now w }
+    ensures near { OnOk result (asked.new.near.items ≡ asked.old.near.items) }
+    ensures all { OnOk result (asked.new.all.items ≡ asked.old.all.items) }
+    ensures size { OnOk result (length gone.new.items ≡ g.now.nodes) }
+    ensures ear { IfOk result (λ o. IfSome o (λ e. IsEasy g.now (mark_of old.now) (entry_at rank.now) u e.items)) }
+    ensures some { IfOk result (λ o. IfSome o (λ e. (w : ℕ) → mark_of gone.new.items w ≡ with_ear (mark_of old.now) e.items w)) }
+{
+    let near = &asked.near;
+    if let Some(found) = first_easy(alloc, g, old, rank, u, 1, gone, near, asked.for_one)? {
+        asked.for_one = found.place + 1;
+        return Ok(Some(found.ear));
+    }
+    asked.for_one = asked.near.len();
+    let near = &asked.near;
+    if let Some(found) = first_easy(alloc, g, old, rank, u, LONGEST, gone, near, asked.for_more)? {
+        asked.for_more = found.place + 1;
+        return Ok(Some(found.ear));
+    }
+    asked.for_more = asked.near.len();
+    let all = &asked.all;
+    if let Some(found) = first_easy(alloc, g, old, rank, u, LONGEST, gone, all, asked.of_all)? {
+        asked.of_all = found.place + 1;
+        return Ok(Some(found.ear));
     }
     Ok(None)
 }

@@ -7,9 +7,9 @@ ghost use Rattle.ear_order.specs.Easy.{AreMarks, with_one_ear, IsLonger};
 ghost use Rattle.ear_order.specs.Turns.{ContinuesWith};
 
 use crate::candidates::facing;
-use crate::easy::first_easy;
+use crate::easy::{Asked, next_easy};
 use crate::marks::{first_unmarked, in_some_ear, mark};
-use crate::sparing::{add_near_ear, founded};
+use crate::sparing::{add_near_ear, founded, near_marked};
 use crate::turns::next_ear;
 use std::alloc::{AllocError, Global};
 use std::marker::Model;
@@ -135,8 +135,8 @@ impl EarOrder {
     }
 }
 
-// Adds easy ears, one after the other, until no node has one: at first the nodes far from `u` are asked, and then the neighbours of
-// each node that an ear takes. It costs one search of the graph, and a few looks around each node that is asked.
+// Adds easy ears, one after the other, until no node has one: the neighbours of each node that an ear takes are asked, and all others where
+// those have none. It costs one search of the graph, and a few looks around each node that is asked.
 fn add_easy(ears: &mut EarOrder, alloc: Global, g: &Graph, u: u32) -> Result<(), NoMemory>
     requires graph { ears.old.graph ≡ g.now }
     requires third { ears.old.u ≡ u }
@@ -149,13 +149,17 @@ fn add_easy(ears: &mut EarOrder, alloc: Global, g: &Graph, u: u32) -> Result<(),
         return Ok(());
     }
     let tree = founded(alloc, g, &old, u)?;
-    let mut asked = tree.order;
+    let mut asked = Asked {
+        near: near_marked(alloc, g, &old)?,
+        all: tree.order,
+        for_one: 0,
+        for_more: 0,
+        of_all: 0,
+    };
     let mut gone = old.to_vec(alloc)?;
-    let mut from = 0;
-    while let Some(found) = first_easy(alloc, g, &old, &tree.rank, u, &mut gone, &asked, from)? {
-        from = found.place + 1;
-        add_near_ear(g, &found.ear, &mut asked)?;
-        ears.put(&mut old, found.ear)?;
+    while let Some(ear) = next_easy(alloc, g, &old, &tree.rank, u, &mut gone, &mut asked)? {
+        add_near_ear(g, &ear, &mut asked.near)?;
+        ears.put(&mut old, ear)?;
     }
     Ok(())
 }

@@ -111,3 +111,17 @@ pub fn add_near_ear(g: &Graph, ear: &[u32], nodes: &mut Vec<u32>) -> Result<(), 
     }
     Ok(())
 }
+
+/// The neighbours of all marked nodes.
+pub fn near_marked(alloc: Global, g: &Graph, marks: &[bool]) -> Result<Vec<u32>, AllocError>
+    requires marks { length marks.now ≡ g.now.nodes }
+    ensures { IfOk result (λ nodes. All (λ w. w < g.now.nodes) nodes.items) }
+{
+    let mut nodes = Vec::new(alloc);
+    for v in 0..g.nodes() {
+        if marks[v as usize] {
+            add_near(g, v, &mut nodes)?;
+        }
+    }
+    Ok(nodes)
+}

@@ -3,5 +3,5 @@ use Rattle.tomo_base.specs.Search.{mark_of}
 use Rattle.ear_order.specs.Easy.{IsOpenEar}
 use Rattle.ear_order.proofs.easy.extend_way.Given as goal
 
-abbrev pub invariant-loop : goal.invariant-loop
-invariant-loop l = (length l.gone.items ≡ l.g.nodes) × IsOpenEar l.g (mark_of l.old) (mark_of l.gone.items) l.u l.way.items
+abbrev pub invariant-loop-i : goal.invariant-loop-i
+invariant-loop-i l = (length l.gone.items ≡ l.g.nodes) × IsOpenEar l.g (mark_of l.old) (mark_of l.gone.items) l.u l.way.items

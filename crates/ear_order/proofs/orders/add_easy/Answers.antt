@@ -22,34 +22,34 @@ founded-requires c =
     rw c.deref.ensures.value (subst (IsLeft g c.in_ok-old.old.items) c.requires.third (left_in o c.requires.order g c.requires.graph c.in_ok-old.old.items size marks.1 c.args.u below new))
 
 -- the ear that was found
-easy_found : (c : After-deref-in-Some) → IsEasy c.args.g.now (mark_of c.loop-gone.old.items) (entry_at c.in_ok-tree.tree.rank.items) c.args.u c.in-Some.found.ear.items
+easy_found : (c : After-deref-in-Some) → IsEasy c.args.g.now (mark_of c.loop-gone.old.items) (entry_at c.in_ok-tree.tree.rank.items) c.args.u c.in-Some.ear.items
 easy_found c =
     let g = c.args.g.now in
-    let e = c.in-Some.found.ear.items in
+    let e = c.in-Some.ear.items in
     let easy : IsEasy g (mark_of c.deref-in-loop-gone.result.now) (entry_at c.deref-in-loop-gone-2.result.now) c.args.u e =
-    subst (λ o. IfSome o (λ f. IsEasy g (mark_of c.deref-in-loop-gone.result.now) (entry_at c.deref-in-loop-gone-2.result.now) c.args.u f.ear.items)) c.in-Some.is c.in_ok-found.ensures.ear in
+    subst (λ o. IfSome o (λ e. IsEasy g (mark_of c.deref-in-loop-gone.result.now) (entry_at c.deref-in-loop-gone-2.result.now) c.args.u e.items)) c.in-Some.is c.in_ok-ear.ensures.ear in
     subst (λ xs. IsEasy g (mark_of xs) (entry_at c.in_ok-tree.tree.rank.items) c.args.u e) c.deref-in-loop-gone.ensures.value
     (subst (λ ys. IsEasy g (mark_of c.deref-in-loop-gone.result.now) (entry_at ys) c.args.u e) c.deref-in-loop-gone-2.ensures.value easy)
 
 -- its nodes are gone
-gone_found : (c : After-deref-in-Some) (w : ℕ) → mark_of c.first_easy.new.gone.items w ≡ with_ear (mark_of c.loop-gone.old.items) c.in-Some.found.ear.items w
+gone_found : (c : After-deref-in-Some) (w : ℕ) → mark_of c.next_easy.new.gone.items w ≡ with_ear (mark_of c.loop-gone.old.items) c.in-Some.ear.items w
 gone_found c w =
-    let e = c.in-Some.found.ear.items in
-    let some : (v : ℕ) → mark_of c.first_easy.new.gone.items v ≡ with_ear (mark_of c.deref-in-loop-gone.result.now) e v =
-    subst (λ o. IfSome o (λ f. (v : ℕ) → mark_of c.first_easy.new.gone.items v ≡ with_ear (mark_of c.deref-in-loop-gone.result.now) f.ear.items v)) c.in-Some.is c.in_ok-found.ensures.some in
-    subst (λ xs. mark_of c.first_easy.new.gone.items w ≡ with_ear (mark_of xs) e w) c.deref-in-loop-gone.ensures.value (some w)
+    let e = c.in-Some.ear.items in
+    let some : (v : ℕ) → mark_of c.next_easy.new.gone.items v ≡ with_ear (mark_of c.deref-in-loop-gone.result.now) e v =
+    subst (λ o. IfSome o (λ e. (v : ℕ) → mark_of c.next_easy.new.gone.items v ≡ with_ear (mark_of c.deref-in-loop-gone.result.now) e.items v)) c.in-Some.is c.in_ok-ear.ensures.some in
+    subst (λ xs. mark_of c.next_easy.new.gone.items w ≡ with_ear (mark_of xs) e w) c.deref-in-loop-gone.ensures.value (some w)
 
 pub add_near_ear-requires-clause-ear : goal.add_near_ear-requires-clause-ear
 add_near_ear-requires-clause-ear c =
     let g = c.args.g.now in
-    subst (All (λ v. v < g.nodes)) (sym c.deref-in-Some.ensures.value) (ear_all g (subst IsGraph c.requires.graph c.requires.order.graph) (mark_of c.loop-gone.old.items) c.in-Some.found.ear.items (easy_found (goal.at.add_near_ear-requires-clause-ear c).After-deref-in-Some).is_ear)
+    subst (All (λ v. v < g.nodes)) (sym c.deref-in-Some.ensures.value) (ear_all g (subst IsGraph c.requires.graph c.requires.order.graph) (mark_of c.loop-gone.old.items) c.in-Some.ear.items (easy_found (goal.at.add_near_ear-requires-clause-ear c).After-deref-in-Some).is_ear)
 
 pub loop-gone-smaller : goal.loop-gone-smaller
 loop-gone-smaller c =
     let old = c.loop-gone.ears in
     let new = c.put.new.self in
     let added = c.in_ok-put.ensures.added in
-    let longer : length new.list ≡ length old.list + 1 = ap (λ (z : Ears). length z.list) added ∙ length_push old.list c.in-Some.found.ear.items in
+    let longer : length new.list ≡ length old.list + 1 = ap (λ (z : Ears). length z.list) added ∙ length_push old.list c.in-Some.ear.items in
     let nodes : new.graph.nodes ≡ c.args.g.now.nodes = ap (λ (z : Ears). z.graph.nodes) added ∙ (ap (λ (z : Ears). z.graph.nodes) c.loop-gone.invariant.0.0 ∙ ap (λ (z : Network). z.nodes) c.requires.graph) in
     let short : length new.list ≤ new.graph.nodes = order_short new c.in_ok-put.ensures.order in
     let smaller : c.args.g.now.nodes - length new.list < c.args.g.now.nodes - length old.list = omega (arith, longer, nodes, short) in
@@ -57,7 +57,7 @@ loop-gone-smaller c =
 
 pub loop-gone-preserved : goal.loop-gone-preserved
 loop-gone-preserved c =
-    let e = c.in-Some.found.ear.items in
+    let e = c.in-Some.ear.items in
     let easy = easy_found (goal.at.loop-gone-preserved c).After-deref-in-Some in
     let old = c.loop-gone.ears in
     let new = c.put.new.self in
@@ -73,6 +73,7 @@ loop-gone-preserved c =
       more c.args.u ∙ easy.goes_on.third,
       founded_same c.args.g.now (with_ear (mark_of c.loop-gone.old.items) e) (mark_of c.put.new.old.items) (entry_at c.in_ok-tree.tree.rank.items) c.args.u (λ v. sym (more v)) easy.founded,
       c.in_ok-add_near_ear.ensures,
-      c.in_ok-found.ensures.size,
+      subst (All (λ v. v < c.args.g.now.nodes)) (sym c.in_ok-ear.ensures.all) c.loop-gone.invariant.6,
+      c.in_ok-ear.ensures.size,
       λ w. gone_found (goal.at.loop-gone-preserved c).After-deref-in-Some w ∙ sym (more w),
     )

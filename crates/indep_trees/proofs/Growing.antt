@@ -1,5 +1,5 @@
 -- From numbered ears of the extended graph to independent trees of the graph.
-use Rattle.std.proofs.Common.{◌≡◌, ℕ, zero, suc, ◌+◌, ◌<◌, ◌≤◌, List, [], ◌∷◌, length, All, Bool, true, false, ◌&&◌, ◌==◌, nat_lt, refl, sym, subst, ap, ◌∙◌, arith}
+use Rattle.std.proofs.Common.{◌≡◌, ◌⊎◌, ℕ, zero, suc, ◌+◌, ◌<◌, ◌≤◌, List, [], ◌∷◌, length, All, Bool, true, false, ◌&&◌, ◌==◌, nat_lt, refl, sym, subst, ap, ◌∙◌, inl, inr, arith}
 use Rattle.std.specs.List.{filter}
 use Rattle.std.proofs.lemmas.Bool.{both_ways, or_left, or_right, eq-eqb}
 use Rattle.tomo_base.specs.Limits.{graph_node_limit}
@@ -18,6 +18,8 @@ use Rattle.ear_order.proofs.Ordering.{order_nodes}
 use Rattle.indep_trees.specs.Trees.{IsFree, Trees, parent_in, AreTrees}
 use Rattle.indep_trees.specs.Numbers.{spot, HasLater}
 use Rattle.indep_trees.specs.Placing.{In, Numbered}
+use Rattle.indep_trees.specs.Shortening.{IsLow, IsHigh, IsLater, AreChosen}
+use Rattle.indep_trees.proofs.Choosing.{sides_chosen}
 use Rattle.indep_trees.proofs.Sides.{Side, HasSides, independent}
 use Rattle.indep_trees.proofs.Numbers.{later_neighbour, has_sides, parents, length_below}
 use Rattle.indep_trees.proofs.Placements.{in_ears_below}
@@ -76,21 +78,31 @@ sides_same g graph m number number' ear k parent parent' same up s = record {
       (side_same number number' ear i v (parent i v) (same v free.0) (same (parent i v) (linked_below g.nodes g.links v (parent i v) graph (s.linked i v three free)).1) (s.sides i v three free));
 }
 
--- numbers, and parents on three sides, are trees
-pub are_trees : (g : Network) (m : List ℕ) → IsGraph g → 1 ≤ length m → (D : ℕ → Bool) (order low high ears third numbers : List ℕ) (k : ℕ)
+-- numbers, and parents on three sides or chosen there, are trees
+pub are_trees : (g : Network) (m : List ℕ) → IsGraph g → 1 ≤ length m → (D : ℕ → Bool) (order low high ears third numbers low' high' third' : List ℕ) (k : ℕ)
     → Numbered (extended g m) g.nodes (entry_at m 0) (g.nodes + 1) D order (entry_at low) (entry_at high) (entry_at ears) k → ((v : ℕ) → v < g.nodes → D v ≡ true)
     → ((v : ℕ) → v < g.nodes → has m v ≡ false → linked (extended g m) v (entry_at third v) ≡ true) → ((v : ℕ) → v < g.nodes → has m v ≡ false → entry_at ears v < entry_at ears (entry_at third v))
     → ((v : ℕ) → v < g.nodes → In v order → entry_at numbers v ≡ spot v (filter (λ w. nat_lt w g.nodes) order))
-    → AreTrees (record { graph = g; monitors = m; numbers = numbers; first = low; second = high; third = third })
-are_trees g m graph some D order low high ears third numbers k numbered all third_link third_later numbers_are =
-    independent g graph (has m) (entry_at numbers) (entry_at ears) k (parent_in trees)
+    → AreChosen (IsLow g (entry_at numbers) (entry_at ears)) low low' → AreChosen (IsHigh g (entry_at numbers) (entry_at ears)) high high' → AreChosen (IsLater g (entry_at ears)) third third'
+    → AreTrees (record { graph = g; monitors = m; numbers = numbers; first = low'; second = high'; third = third' })
+are_trees g m graph some D order low high ears third numbers low' high' third' k numbered all third_link third_later numbers_are low_chosen high_chosen third_chosen =
+    independent g graph (has m) (entry_at numbers) (entry_at ears) k (parent_in new)
+    (sides_chosen g (has m) (entry_at numbers) (entry_at ears) k (parent_in trees) (parent_in new) chosen
     (sides_same g graph (has m) (λ v. spot v (filter (λ w. nat_lt w g.nodes) order)) (entry_at numbers) (entry_at ears) k
     (parents g (extended g m) (has m) g.nodes (entry_at m 0) (g.nodes + 1) D order (entry_at low) (entry_at high) (entry_at ears) k numbered all own special (entry_at third) third_is)
     (parent_in trees) (λ v l. numbers_are v l (numbered.has v (all v l))) up
-    (has_sides g (extended g m) (has m) g.nodes (entry_at m 0) (g.nodes + 1) D order (entry_at low) (entry_at high) (entry_at ears) k numbered all own special (entry_at third) third_is))
+    (has_sides g (extended g m) (has m) g.nodes (entry_at m 0) (g.nodes + 1) D order (entry_at low) (entry_at high) (entry_at ears) k numbered all own special (entry_at third) third_is)))
   where
     trees : Trees
     trees = record { graph = g; monitors = m; numbers = numbers; first = low; second = high; third = third }
+
+    new : Trees
+    new = record { graph = g; monitors = m; numbers = numbers; first = low'; second = high'; third = third' }
+
+    chosen : (i v : ℕ) → i < 3 → IsFree g (has m) v → (parent_in new i v ≡ parent_in trees i v) ⊎ ((linked g v (parent_in new i v) ≡ true) × Side (entry_at numbers) (entry_at ears) i v (parent_in new i v))
+    chosen zero v three free = elim (low_chosen v) [ inl kept ↦ inl kept | inr is ↦ inr (is.0, (is.1, is.2)) ]
+    chosen (suc zero) v three free = elim (high_chosen v) [ inl kept ↦ inl kept | inr is ↦ inr (is.0, (is.1, is.2)) ]
+    chosen (suc (suc i)) v three free = third_chosen v
 
     own : (v w : ℕ) → IsFree g (has m) v → linked (extended g m) v w ≡ true → (w < g.nodes) × (linked g v w ≡ true)
     own v w free l = free_linked g graph m v w free l

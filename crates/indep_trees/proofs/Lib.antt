@@ -10,3 +10,4 @@ pub mod Gifts
 pub mod Placements
 pub mod Growing
 pub mod Widening
+pub mod Choosing

@@ -1,3 +1,4 @@
 pub mod Trees
 pub mod Placing
 pub mod Numbers
+pub mod Shortening

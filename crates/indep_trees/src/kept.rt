@@ -8,6 +8,7 @@ ghost use Rattle.indep_trees.specs.Trees.{IsFree, AreTrees, parent_in, rank_in};
 
 use crate::counting::{all_later, numbered};
 use crate::placing::placed;
+use crate::shortening::shorten_all;
 use ear_order::order;
 use extended_graph::extend;
 use std::alloc::Global;
@@ -61,8 +62,8 @@ impl IndepTrees {
 }
 
 /// Independent trees for monitors that identify: the extended graph is ordered by ears, from the one further node to the least monitor with the
-/// other further node last, and its nodes are put into one order ear by ear. The parents of a node are its two neighbours on its ear and one on
-/// a later ear. After Cheriyan and Maheshwari (1988), and for monitors Ma, He, Leung, Swami and Towsley (2013). It costs an order of ears, and
+/// other further node last, and its nodes are put into one order ear by ear. The parents of a node are a neighbour before it and one behind it
+/// there, both on no later ear, and one on a later ear, each such that few steps lead from it to a monitor. After Cheriyan and Maheshwari (1988), and for monitors Ma, He, Leung, Swami and Towsley (2013). It costs an order of ears, and
 /// for each ear a pass over the nodes before it.
 pub fn trees(alloc: Global, g: &Graph, m: &NodeSet) -> Result<IndepTrees, NoMemory>
     requires connected { IsConnected g.now }
@@ -79,9 +80,10 @@ pub fn trees(alloc: Global, g: &Graph, m: &NodeSet) -> Result<IndepTrees, NoMemo
     let t = m.as_slice()[0];
     let wide = extend(alloc, g, m)?;
     let ears = order(alloc, &wide, n, t, n + 1)?;
-    let places = placed(alloc, n + 2, &ears, n, t)?;
-    let third = all_later(alloc, n, &wide, &places.ears, m)?;
+    let mut places = placed(alloc, n + 2, &ears, n, t)?;
+    let mut third = all_later(alloc, n, &wide, &places.ears, m)?;
     let numbers = numbered(alloc, n, &places.order)?;
+    shorten_all(alloc, g, m, &ears, &numbers, &mut places, &mut third)?;
     let links = g.links().to_vec(alloc)?;
     let monitors = m.copy(alloc)?;
     Ok(IndepTrees {

@@ -4,5 +4,6 @@
 mod counting;
 mod kept;
 mod placing;
+mod shortening;
 
 pub use kept::{IndepTrees, trees};

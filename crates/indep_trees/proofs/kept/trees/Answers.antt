@@ -81,7 +81,10 @@ returns-clause-trees c =
     let numbered = whole_numbered c.args.g.now c.args.m.now c.in_ok-ears.ears c.in_ok-wide.wide c.in_ok-wide.ensures c.nodes-n.result (get_or c.as_slice.result.now 0 0) c.nodes-n.ensures.nodes t_is c.in_ok-ears.ensures c.in_ok-places.places.order.items (entry_at c.in_ok-places.places.low.items) (entry_at c.in_ok-places.places.high.items) (entry_at c.in_ok-places.places.ears.items) (length c.in_ok-ears.ears.list + 1) c.in_ok-places.ensures.numbered in
     let all = whole_all c.args.g.now c.args.m.now c.in_ok-ears.ears c.in_ok-wide.wide c.in_ok-wide.ensures c.nodes-n.result (get_or c.as_slice.result.now 0 0) (c.nodes-n.result + 1) c.in_ok-ears.ensures in
     rw (links, c.nodes-n.ensures.nodes, c.in_ok-monitors.ensures) (are_trees c.args.g.now c.args.m.now c.nodes-n.ensures.graph some _ c.in_ok-places.places.order.items c.in_ok-places.places.low.items c.in_ok-places.places.high.items c.in_ok-places.places.ears.items
-    c.in_ok-third.third.items c.in_ok-numbers.numbers.items _ numbered all
+    c.in_ok-third.third.items c.in_ok-numbers.numbers.items c.shorten_all.new.places.low.items c.shorten_all.new.places.high.items c.shorten_all.new.third.items _ numbered all
     (rw (c.in_ok-wide.ensures, c.nodes-n.ensures.nodes) at c.in_ok-third.ensures.link)
     (rw (c.deref.ensures.value, c.nodes-n.ensures.nodes) at c.in_ok-third.ensures.later)
-    (rw (c.deref-2.ensures.value, c.nodes-n.ensures.nodes) at c.in_ok-numbers.ensures.numbers))
+    (rw (c.deref-2.ensures.value, c.nodes-n.ensures.nodes) at c.in_ok-numbers.ensures.numbers)
+    (rw c.deref-3.ensures.value at c.in_ok-shorten_all.ensures.low)
+    (rw c.deref-3.ensures.value at c.in_ok-shorten_all.ensures.high)
+    c.in_ok-shorten_all.ensures.third)
